@@ -1,0 +1,62 @@
+-- What soundness says of a directory's value, in numbers that omega reads, and that the test says just that.
+-- Pages that differ are pages that count at most once.
+use mathlib.Core.Path.{_≡_}
+use mathlib.Core.Bool.{Bool, true, false}
+use Prim.Native.Nat.{ℕ, _+_, _*_, _≤_, _<_}
+use lib.Dec.{eqb}
+use Rattle.figures.specs.Choice.{if_then_else_, ∣_∣}
+use Rattle.figures.specs.Entry.{Entry, bits, short, long, total}
+use Rattle.figures.specs.Directory.{Directory, unit, cached, remembered, inCache}
+use Rattle.figures.specs.Sound.{car, knownPolicy}
+use Rattle.figures.proofs.Lists.{is}
+
+abbrev pub inHistory : (Entry → ℕ) → Directory → ℕ
+inHistory count d = total count (d .b1) + total count (d .b2)
+
+pub record CarFacts (d : Directory) : Type 0 where
+  pub q-zero : d .q ≡ 0
+  pub none-long : inCache long d + inHistory long d ≡ 0
+  pub t1-b1-fit : ∣ d .t1 ∣ + ∣ d .b1 ∣ ≤ d .c
+
+pub record CartFacts (d : Directory) : Type 0 where
+  pub q-fits : d .q ≤ 2 * d .c
+  pub t2-b2-long : total short (d .t2) + total short (d .b2) ≡ 0
+  pub b1-short : total long (d .b1) ≡ 0
+
+-- What both policies share.
+pub record Shared (d : Directory) : Type 0 where
+  pub c-least : 1 ≤ d .c
+  pub c-most : d .c ≤ 1024
+  pub p-fits : d .p ≤ unit * d .c
+  pub cache-fits : cached d ≤ d .c
+  pub history-fits : remembered d ≤ d .c
+  pub room-no-history : cached d < d .c → remembered d ≡ 0
+  pub pages-differ : (x : ℕ) → inCache (is x) d + inHistory (is x) d ≤ 1
+  pub history-clear : inHistory bits d ≡ 0
+
+pub record Facts (d : Directory) : Type 0 where
+  pub known : knownPolicy (d .policy) ≡ true
+  pub shared : Shared d
+  pub own : if eqb (d .policy) car then CarFacts d else CartFacts d
+
+-- What the evict part does, whichever policy: one page less is cached, one more remembered, no page is lost or comes in.
+pub record Opened (d d′ : Directory) : Type 0 where
+  pub same-policy : d′ .policy ≡ d .policy
+  pub same-c : d′ .c ≡ d .c
+  pub same-p : d′ .p ≡ d .p
+  pub one-less : cached d′ + 1 ≡ cached d
+  pub one-more : remembered d′ ≡ remembered d + 1
+  pub same-pages : (x : ℕ) → inCache (is x) d′ + inHistory (is x) d′ ≡ inCache (is x) d + inHistory (is x) d
+  pub none-enters : (x : ℕ) → inCache (is x) d′ ≤ inCache (is x) d
+  pub history-clear : inHistory bits d′ ≡ 0
+
+-- What trim does, whichever policy: the histories fit again, and nothing else changes.
+pub record Trimmed (d d′ : Directory) : Type 0 where
+  pub same-policy : d′ .policy ≡ d .policy
+  pub same-c : d′ .c ≡ d .c
+  pub same-p : d′ .p ≡ d .p
+  pub same-t1 : d′ .t1 ≡ d .t1
+  pub same-t2 : d′ .t2 ≡ d .t2
+  pub fewer-b1 : (count : Entry → ℕ) → total count (d′ .b1) ≤ total count (d .b1)
+  pub fewer-b2 : (count : Entry → ℕ) → total count (d′ .b2) ≤ total count (d .b2)
+  pub history-fits : remembered d′ ≤ d .c

@@ -1,0 +1,5 @@
+-- The proofs of what specs/ states. Each statement's comment in specs/Demands names the file that proves it.
+pub mod Cases
+pub mod Lists
+pub mod Repeats
+pub mod Facts

@@ -1,0 +1,153 @@
+-- What a list of entries counts for: at a tail, without a page, with a bit set, without its head.
+-- Each law is over any count, so that sizes, bits, filters and pages are counted by the same ones.
+use mathlib.Core.Path.{_≡_, refl, sym, ap, _∙_}
+use mathlib.Core.Bool.{Bool, true, false, true≢false, false≢true}
+use mathlib.Core.List.{List, [], _∷_, _++_}
+use Prim.Native.Nat.{ℕ, zero, suc, _+_, _-_, _*_, _≤_, _<_}
+use native.Mathlib.Omega.{arith}
+use lib.ListN.{length-append}
+use lib.Dec.{eqb}
+use borrow.Author.Tests.{eqb-true, eqb-false, eq-eqb, ne-eqb}
+use Rattle.figures.specs.Choice.{if_then_else_, ∣_∣}
+use Rattle.figures.specs.Entry.{Entry, marked, total, has, mark, without, dropHead}
+
+-- 1 where the entry is for page x.
+abbrev pub is : ℕ → Entry → ℕ
+is x e = if eqb (e .page) x then 1 else 0
+
+-- A list with a head.
+pub record HasHead (l : List Entry) : Type 0 where
+  pub head : Entry
+  pub rest : List Entry
+  pub front : l ≡ head ∷ rest
+
+pub has-head : (l : List Entry) → 1 ≤ ∣ l ∣ → HasHead l
+has-head [] h = absurd (omega arith)
+has-head (e ∷ es) h = record { head = e; rest = es; front = refl }
+
+pub empty : (l : List Entry) → ∣ l ∣ ≡ 0 → l ≡ []
+empty [] h = refl
+empty (e ∷ es) h = absurd (omega arith)
+
+pub length-tail : (l : List Entry) (e : Entry) → ∣ l ++ (e ∷ []) ∣ ≡ ∣ l ∣ + 1
+length-tail l e = length-append l (e ∷ []) ∙ omega arith
+
+-- any count
+module _ (count : Entry → ℕ) where
+  pub total-append : (a b : List Entry) → total count (a ++ b) ≡ total count a + total count b
+  total-append [] b = omega arith
+  total-append (e ∷ a) b = let h = total-append a b in omega arith
+
+  pub total-tail : (l : List Entry) (e : Entry) → total count (l ++ (e ∷ [])) ≡ total count l + count e
+  total-tail l e = total-append l (e ∷ []) ∙ omega arith
+
+  pub total-at-most : (most : ℕ) → ((e : Entry) → count e ≤ most) → (l : List Entry) → total count l ≤ most * ∣ l ∣
+  total-at-most most h [] = omega arith
+  total-at-most most h (e ∷ l) = let i = total-at-most most h l in let j = h e in omega arith
+
+  pub total-head-dropped : (l : List Entry) → total count (dropHead l) ≤ total count l
+  total-head-dropped [] = omega arith
+  total-head-dropped (e ∷ l) = omega arith
+
+  pub total-without : (x : ℕ) (l : List Entry) → total count (without x l) ≤ total count l
+  total-without x [] = omega arith
+  total-without x (e ∷ l) = go (eqb (e .page) x) (total-without x l)
+    where
+      go : (b : Bool) → total count (without x l) ≤ total count l → total count (if b then l else e ∷ without x l) ≤ count e + total count l
+      go true h = omega arith
+      go false h = omega arith
+
+  pub total-marked-same : ((e : Entry) → count (marked e) ≡ count e) → (x : ℕ) (l : List Entry) → total count (mark x l) ≡ total count l
+  total-marked-same same x [] = refl
+  total-marked-same same x (e ∷ l) = go (eqb (e .page) x) (same e) (total-marked-same same x l)
+    where
+      go : (b : Bool) → count (marked e) ≡ count e → total count (mark x l) ≡ total count l
+          → total count (if b then marked e ∷ l else e ∷ mark x l) ≡ count e + total count l
+      go true s h = omega arith
+      go false s h = omega arith
+
+  pub total-marked-at-most : (more : ℕ) → ((e : Entry) → count (marked e) ≤ count e + more) → (x : ℕ) (l : List Entry)
+      → total count (mark x l) ≤ total count l + more
+  total-marked-at-most more most x [] = omega arith
+  total-marked-at-most more most x (e ∷ l) = go (eqb (e .page) x) (most e) (total-marked-at-most more most x l)
+    where
+      go : (b : Bool) → count (marked e) ≤ count e + more → total count (mark x l) ≤ total count l + more
+          → total count (if b then marked e ∷ l else e ∷ mark x l) ≤ count e + total count l + more
+      go true s h = omega arith
+      go false s h = omega arith
+
+pub length-head-dropped : (l : List Entry) → ∣ dropHead l ∣ ≡ ∣ l ∣ - 1
+length-head-dropped [] = refl
+length-head-dropped (e ∷ l) = omega arith
+
+pub length-marked : (x : ℕ) (l : List Entry) → ∣ mark x l ∣ ≡ ∣ l ∣
+length-marked x [] = refl
+length-marked x (e ∷ l) = go (eqb (e .page) x) (length-marked x l)
+  where
+    go : (b : Bool) → ∣ mark x l ∣ ≡ ∣ l ∣ → ∣ if b then marked e ∷ l else e ∷ mark x l ∣ ≡ suc ∣ l ∣
+    go true h = refl
+    go false h = ap suc h
+
+-- page x, by its count
+module _ (x : ℕ) where
+  pub has-counts : (l : List Entry) → has x l ≡ true → 1 ≤ total (is x) l
+  has-counts [] h = absurd (false≢true h)
+  has-counts (e ∷ l) h = go (eqb (e .page) x) h (has-counts l)
+    where
+      go : (b : Bool) → (if b then true else has x l) ≡ true → (has x l ≡ true → 1 ≤ total (is x) l)
+          → 1 ≤ (if b then 1 else 0) + total (is x) l
+      go true h i = omega arith
+      go false h i = let j = i h in omega arith
+
+  pub lacks-counts : (l : List Entry) → has x l ≡ false → total (is x) l ≡ 0
+  lacks-counts [] h = refl
+  lacks-counts (e ∷ l) h = go (eqb (e .page) x) h (lacks-counts l)
+    where
+      go : (b : Bool) → (if b then true else has x l) ≡ false → (has x l ≡ false → total (is x) l ≡ 0)
+          → (if b then 1 else 0) + total (is x) l ≡ 0
+      go true h i = absurd (true≢false h)
+      go false h i = let j = i h in omega arith
+
+  decided : (b : Bool) (l : List Entry) → has x l ≡ b → 1 ≤ total (is x) l → has x l ≡ true
+  decided true l h i = h
+  decided false l h i = let j = lacks-counts l h in absurd (omega arith)
+
+  pub counts-has : (l : List Entry) → 1 ≤ total (is x) l → has x l ≡ true
+  counts-has l = decided (has x l) l refl
+
+  pub counts-lacks : (l : List Entry) → total (is x) l ≡ 0 → has x l ≡ false
+  counts-lacks l h = go (has x l) refl
+    where
+      go : (b : Bool) → has x l ≡ b → has x l ≡ false
+      go true i = let j = has-counts l i in absurd (omega arith)
+      go false i = i
+
+  pub is-itself : (e : Entry) → e .page ≡ x → is x e ≡ 1
+  is-itself e h = ap (λ (b : Bool). if b then 1 else 0) (eq-eqb (e .page) x h)
+
+  pub is-at-most-one : (e : Entry) → is x e ≤ 1
+  is-at-most-one e = go (eqb (e .page) x)
+    where
+      go : (b : Bool) → (if b then 1 else 0) ≤ 1
+      go true = omega arith
+      go false = omega arith
+
+  -- a list that has x, without it
+  pub length-without : (l : List Entry) → has x l ≡ true → ∣ l ∣ ≡ ∣ without x l ∣ + 1
+  length-without [] h = absurd (false≢true h)
+  length-without (e ∷ l) h = go (eqb (e .page) x) h (length-without l)
+    where
+      go : (b : Bool) → (if b then true else has x l) ≡ true → (has x l ≡ true → ∣ l ∣ ≡ ∣ without x l ∣ + 1)
+          → suc ∣ l ∣ ≡ ∣ if b then l else e ∷ without x l ∣ + 1
+      go true h i = omega arith
+      go false h i = let j = i h in omega arith
+
+  pub count-without : (l : List Entry) → has x l ≡ true → total (is x) l ≡ total (is x) (without x l) + 1
+  count-without [] h = absurd (false≢true h)
+  count-without (e ∷ l) h = go (eqb (e .page) x) refl h (count-without l)
+    where
+      go : (b : Bool) → eqb (e .page) x ≡ b → (if b then true else has x l) ≡ true
+          → (has x l ≡ true → total (is x) l ≡ total (is x) (without x l) + 1)
+          → (if b then 1 else 0) + total (is x) l ≡ total (is x) (if b then l else e ∷ without x l) + 1
+      go true s h i = omega arith
+      go false s h i = let j = i h in let k : is x e ≡ 0 = ap (λ (b : Bool). if b then 1 else 0) s in omega arith

@@ -1,0 +1,162 @@
+-- Every promise about the definitions, each beside the sentence that asks for it; behind it, in brackets, the file of
+-- proofs/ that proves it. A directory is meant by its value; WordsAreDirectories joins values and words.
+use mathlib.Core.Path.{_≡_}
+use mathlib.Core.Bool.{Bool, true, false, _||_}
+use mathlib.Core.List.{List, [], _∷_, _++_}
+use Prim.Native.Nat.{ℕ, zero, suc, _+_, _*_, _≤_}
+use lib.Dec.{eqb}
+use Rattle.figures.specs.Choice.{if_then_else_, ∣_∣}
+use Rattle.figures.specs.Entry.{bits, short, long, total, has}
+use Rattle.figures.specs.Directory.{Directory, fresh, cached, remembered, inCache}
+use Rattle.figures.specs.Words.{encode, decode}
+use Rattle.figures.specs.Sound.{car, cart, knownPolicy, knownSize, sound}
+use Rattle.figures.specs.Hand.{Hand, begin, Ends}
+use Rattle.figures.specs.Car as Car
+use Rattle.figures.specs.Cart as Cart
+use Rattle.figures.specs.Request.{policyOf, request}
+use Rattle.figures.specs.Run.{run}
+
+abbrev pub Sound : Directory → Type 0
+Sound d = sound (encode d) ≡ true
+
+-- THE WORDS
+
+-- Words that are sound hold one directory, and a directory has one run of words. [Encoding]
+pub record WordsAreDirectories : Type 0 where
+  pub decode-encode : (d : Directory) → decode (encode d) ≡ d
+  pub encode-decode : (w : List ℕ) → sound w ≡ true → encode (decode w) ≡ w
+  pub one-to-one : (d d′ : Directory) → encode d ≡ encode d′ → d ≡ d′
+
+-- "exactly 8 + 4c of them" [Encoding]
+abbrev pub WordsFit : Type 0
+WordsFit = (d : Directory) → cached d + remembered d ≤ 2 * d .c → ∣ encode d ∣ ≡ 8 + 4 * d .c
+
+-- SOUNDNESS
+
+-- A fresh directory is sound. [Kept]
+abbrev pub FreshIsSound : Type 0
+FreshIsSound = (policy c : ℕ) → knownPolicy policy ≡ true → knownSize c ≡ true → Sound (fresh policy c)
+
+-- "Every accepted request leaves a sound directory in which the requested page is in T1 or T2." [Kept]
+pub record Kept (x : ℕ) (d : Directory) : Type 0 where
+  pub sound-again : Sound (request x d .dir)
+  pub page-cached : has x (request x d .dir .t1) || has x (request x d .dir .t2) ≡ true
+  pub same-policy : request x d .dir .policy ≡ d .policy
+  pub same-size : request x d .dir .c ≡ d .c
+
+abbrev pub RequestKeeps : Type 0
+RequestKeeps = (x : ℕ) (d : Directory) → Sound d → Kept x d
+
+-- THE EVICT PART, from every sound directory that is full
+
+abbrev pub WhenFull : (Directory → Type 0) → Type 0
+WhenFull P = (d : Directory) → Sound d → cached d ≡ d .c → P d
+
+-- "No budget may decide where the defined evict part ends: .. from every sound directory the published stop comes first."
+-- The repeat that knows no budget ends where the definition does, and every head that it asks for is there. [Car, Cart]
+abbrev pub CarStops : Directory → Type 0
+CarStops d = Ends Car.choose (begin 0 0 d) (Car.evict d)
+
+pub record CartStops (d : Directory) : Type 0 where
+  pub first : Ends Cart.firstLook (Cart.counted d) (Cart.firstPass (Cart.counted d))
+  pub second :
+      Ends Cart.secondLook (Cart.firstPass (Cart.counted d)) (Cart.secondPass (Cart.firstPass (Cart.counted d)))
+
+abbrev pub PublishedStopComesFirst : Type 0
+PublishedStopComesFirst = WhenFull (λ d. if eqb (d .policy) car then CarStops d else CartStops d)
+
+-- One page goes from T1 or T2, of which the chosen one is not empty, to a history, and its reference bit is clear there;
+-- "bits set before equal bits set after plus bits cleared" (request 10 of 02). [Car, Cart]
+pub record Evicts (d : Directory) (h : Hand) : Type 0 where
+  pub from-T1-or-T2 : (1 ≤ h .list) × (h .list ≤ 2)
+  pub one-less : cached (h .dir) + 1 ≡ cached d
+  pub one-more : remembered (h .dir) ≡ remembered d + 1
+  pub demoted-clear : total bits (h .dir .b1) + total bits (h .dir .b2) ≡ 0
+  pub bits-accounted : inCache bits d ≡ inCache bits (h .dir) + h .cleared
+
+abbrev pub EvictsOne : Type 0
+EvictsOne = WhenFull (λ d. Evicts d (policyOf (d .policy) .evict d))
+
+-- "n_S and n_L count the S and L pages in T1 and T2", also as Figure 3 has kept them when the evict part is over. [Cart]
+abbrev pub CountsKept : Type 0
+CountsKept =
+    WhenFull (λ d. d .policy ≡ cart → (Cart.evict d .nS ≡ inCache short (Cart.evict d .dir)) × (Cart.evict d .nL ≡ inCache long (Cart.evict d .dir)))
+
+-- A history that trim takes the head of has one. [Car, Cart]
+abbrev pub CarTrimHasHead : Directory → Type 0
+CarTrimHasHead d =
+    (∣ d .t1 ∣ + ∣ d .b1 ∣ ≡ d .c → 1 ≤ ∣ d .b1 ∣)
+    × (¬ (∣ d .t1 ∣ + ∣ d .b1 ∣ ≡ d .c) → cached d + remembered d ≡ 2 * d .c → 1 ≤ ∣ d .b2 ∣)
+
+abbrev pub CartTrimHasHead : Directory → Type 0
+CartTrimHasHead d = remembered d ≡ d .c + 1 → ∣ d .b2 ∣ ≡ 0 → 1 ≤ ∣ d .b1 ∣
+
+abbrev pub TrimHasHead : Type 0
+TrimHasHead =
+    WhenFull (λ d. if eqb (d .policy) car then CarTrimHasHead (Car.evict d .dir) else CartTrimHasHead (Cart.evict d .dir))
+
+-- HAND MOVES
+
+-- "For kinds 0 and 1 the other three are 0." [Moves]
+abbrev pub StillRequests : Type 0
+StillRequests = (x : ℕ) (d : Directory) → request x d .kind ≤ 1 → (request x d .page ≡ 0) × (request x d .list ≡ 0) × (request x d .moves ≡ 0)
+
+-- "for an evicting CAR request one more than the reference bits cleared" [Moves]
+abbrev pub CarMovesAreBitsCleared : Type 0
+CarMovesAreBitsCleared =
+    (x : ℕ) (d : Directory) → Sound d → d .policy ≡ car → 2 ≤ request x d .kind → request x d .moves ≡ request x d .cleared + 1
+
+-- "no CAR request needs more than c + 1 hand moves, no CART request more than 2c + 1": from every sound directory. [Moves]
+abbrev pub mostMoves : Directory → ℕ
+mostMoves d = if eqb (d .policy) car then d .c + 1 else 2 * d .c + 1
+
+abbrev pub RequestMovesAtMost : Type 0
+RequestMovesAtMost = (x : ℕ) (d : Directory) → Sound d → request x d .moves ≤ mostMoves d
+
+-- "over the whole sequence at most one, respectively two, a request": from every sound directory, with what its set
+-- bits, and for CART its L pages in T1, may still cost. [Moves]
+abbrev pub movesEach : Directory → ℕ
+movesEach d = if eqb (d .policy) car then 1 else 2
+
+abbrev pub owed : Directory → ℕ
+owed d = if eqb (d .policy) car then inCache bits d else total Cart.cost (d .t1) + 2 * total bits (d .t2)
+
+abbrev pub RunMovesAtMost : Type 0
+RunMovesAtMost =
+    (trace : List ℕ) (d : Directory) → Sound d → run trace d .tally .moves ≤ movesEach d * ∣ trace ∣ + owed d
+
+-- DEMAND 3: from an empty directory of c pages, any page sequence
+
+abbrev pub FromFresh : (ℕ → Type 0) → Type 0
+FromFresh P = (c : ℕ) → 1 ≤ c → c ≤ 1024 → P c
+
+abbrev pub lastMoves : ℕ → ℕ → List ℕ → ℕ → ℕ
+lastMoves policy c trace x = request x (run trace (fresh policy c) .dir) .moves
+
+-- "no CAR request needs more than c + 1 hand moves, no CART request more than 2c + 1" [Moves]
+abbrev pub CarRequestAtMost : Type 0
+CarRequestAtMost = FromFresh (λ c. (trace : List ℕ) (x : ℕ) → lastMoves car c trace x ≤ c + 1)
+
+abbrev pub CartRequestAtMost : Type 0
+CartRequestAtMost = FromFresh (λ c. (trace : List ℕ) (x : ℕ) → lastMoves cart c trace x ≤ 2 * c + 1)
+
+-- "over the whole sequence at most one, respectively two, a request" [Moves]
+abbrev pub CarRunAtMost : Type 0
+CarRunAtMost = FromFresh (λ c. (trace : List ℕ) → run trace (fresh car c) .tally .moves ≤ ∣ trace ∣)
+
+abbrev pub CartRunAtMost : Type 0
+CartRunAtMost = FromFresh (λ c. (trace : List ℕ) → run trace (fresh cart c) .tally .moves ≤ 2 * ∣ trace ∣)
+
+-- "for every c a sequence reaches each single-request bound": the pages 1 to c, the same again, then a new one. [Reached]
+abbrev pub pagesFrom : ℕ → ℕ → List ℕ
+pagesFrom x zero = []
+pagesFrom x (suc n) = x ∷ pagesFrom (suc x) n
+
+abbrev pub allTwice : ℕ → List ℕ
+allTwice c = pagesFrom 1 c ++ pagesFrom 1 c
+
+abbrev pub CarReached : Type 0
+CarReached = FromFresh (λ c. lastMoves car c (allTwice c) (c + 1) ≡ c + 1)
+
+abbrev pub CartReached : Type 0
+CartReached = FromFresh (λ c. lastMoves cart c (allTwice c) (c + 1) ≡ 2 * c + 1)

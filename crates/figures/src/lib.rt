@@ -1,0 +1,2 @@
+// The definitions of document 01 and of Figures 2 and 3 stand in specs/, their laws in proofs/.
+// There is no code here: the crates above are proved to do what these definitions say.
