@@ -3,3 +3,6 @@ pub mod Cases
 pub mod Lists
 pub mod Repeats
 pub mod Facts
+pub mod Requests
+pub mod Placing
+pub mod Reached

@@ -1,0 +1,74 @@
+-- How a request goes, by its tests; and a run, request by request.
+-- Whatever is proved of requests goes by these cases.
+use mathlib.Core.Path.{_≡_, refl, sym, ap, _∙_}
+use mathlib.Core.Bool.{Bool, true, false, _||_}
+use mathlib.Core.List.{List, [], _∷_, _++_}
+use Prim.Native.Nat.{ℕ, _+_}
+use lib.Dec.{eqb}
+use Rattle.figures.specs.Choice.{if_then_else_}
+use Rattle.figures.specs.Entry.{Entry, has}
+use Rattle.figures.specs.Directory.{Directory, cached}
+use Rattle.figures.specs.Hand.{Hand}
+use Rattle.figures.specs.Request.{Policy, Served, still, evicted, hit, missed, serve, request}
+use Rattle.figures.specs.Run.{Tally, runFrom}
+
+module _ (π : Policy) (x : ℕ) (d : Directory) where
+  -- what a miss comes to, by whether the cache is full
+  abbrev miss : Bool → Served
+  miss full = let evicting = missed π x (π .evict d) in if full then evicting else still 1 (π .placeNew x d)
+
+  pub serve-hit : has x (d .t1) || has x (d .t2) ≡ true → serve π x d ≡ still 0 (hit x d)
+  unfolding serve
+  serve-hit h = ap (λ (b : Bool). if b then still 0 (hit x d) else miss (eqb (cached d) (d .c))) h
+
+  serve-miss : has x (d .t1) || has x (d .t2) ≡ false → serve π x d ≡ miss (eqb (cached d) (d .c))
+  unfolding serve
+  serve-miss h = ap (λ (b : Bool). if b then still 0 (hit x d) else miss (eqb (cached d) (d .c))) h
+
+  pub serve-room : has x (d .t1) || has x (d .t2) ≡ false → eqb (cached d) (d .c) ≡ false → serve π x d ≡ still 1 (π .placeNew x d)
+  serve-room h room = serve-miss h ∙ ap miss room
+
+  pub serve-full : has x (d .t1) || has x (d .t2) ≡ false → eqb (cached d) (d .c) ≡ true → serve π x d ≡ missed π x (π .evict d)
+  serve-full h full = serve-miss h ∙ ap miss full
+
+module _ (π : Policy) (x : ℕ) (h : Hand) where
+  abbrev elsewhere : Bool → Served
+  elsewhere inB2 = if inB2 then evicted 4 h (π .placeB2 x h) else evicted 2 h (π .placeNew x (π .trim (h .dir)))
+
+  pub missed-B1 : has x (h .dir .b1) ≡ true → missed π x h ≡ evicted 3 h (π .placeB1 x h)
+  unfolding missed
+  missed-B1 f = ap (λ (b : Bool). if b then evicted 3 h (π .placeB1 x h) else elsewhere (has x (h .dir .b2))) f
+
+  missed-elsewhere : has x (h .dir .b1) ≡ false → missed π x h ≡ elsewhere (has x (h .dir .b2))
+  unfolding missed
+  missed-elsewhere f = ap (λ (b : Bool). if b then evicted 3 h (π .placeB1 x h) else elsewhere (has x (h .dir .b2))) f
+
+  pub missed-B2 : has x (h .dir .b1) ≡ false → has x (h .dir .b2) ≡ true → missed π x h ≡ evicted 4 h (π .placeB2 x h)
+  missed-B2 f g = missed-elsewhere f ∙ ap elsewhere g
+
+  pub missed-new : has x (h .dir .b1) ≡ false → has x (h .dir .b2) ≡ false → missed π x h ≡ evicted 2 h (π .placeNew x (π .trim (h .dir)))
+  missed-new f g = missed-elsewhere f ∙ ap elsewhere g
+
+  -- The answer's moves are those of the evict part, wherever the page was.
+  pub missed-moves : missed π x h .moves ≡ h .moves
+  unfolding missed
+  missed-moves = go (has x (h .dir .b1)) (has x (h .dir .b2))
+    where
+      go : (b1 b2 : Bool) → (if b1 then evicted 3 h (π .placeB1 x h) else elsewhere b2) .moves ≡ h .moves
+      go true b2 = refl
+      go false true = refl
+      go false false = refl
+
+-- The directory after a trace.
+abbrev pub after : List ℕ → Directory → Directory
+after [] d = d
+after (x ∷ trace) d = after trace (request x d .dir)
+
+pub run-after : (t : Tally) (trace : List ℕ) (d : Directory) → runFrom t trace d .dir ≡ after trace d
+unfolding runFrom
+run-after t [] d = refl
+run-after t (x ∷ trace) d = run-after _ trace (request x d .dir)
+
+pub after-append : (a b : List ℕ) (d : Directory) → after (a ++ b) d ≡ after b (after a d)
+after-append [] b d = refl
+after-append (x ∷ a) b d = after-append a b (request x d .dir)
