@@ -2,7 +2,10 @@
 pub mod Cases
 pub mod Lists
 pub mod Repeats
+pub mod Encoding
 pub mod Facts
 pub mod Requests
+pub mod Turns
+pub mod Car
 pub mod Placing
 pub mod Reached

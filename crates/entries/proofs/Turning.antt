@@ -1,0 +1,145 @@
+-- The lists that a stretch of words goes through while it is turned, and what the turned stretch is in its parts.
+-- Assumes nothing.
+use mathlib.Core.Path.{_≡_, refl, sym, ap, _∙_, subst}
+use mathlib.Core.List.{List, [], _∷_, _++_, append-assoc, append-nil}
+use Prim.Native.Nat.{ℕ, zero, suc, _+_, _-_, _≤_, _<_}
+use native.Mathlib.Numerals.{add-one}
+use native.Mathlib.Omega.{arith}
+use lib.ListN.{length, take, drop, getD, set, length-append, length-drop}
+use lib.Seq.{length-take-le, take-all, take-suc, drop-cons, append-snoc, getD-append-add, getD-drop, set-at, take-at, drop-at, drop-length}
+use borrow.Rule.Slice.PartMut.{midOf, postOf, putMid}
+
+-- i words moved two places to the front
+pub moved : List ℕ → ℕ → List ℕ
+moved l i = take i (drop 2 l) ++ drop i l
+
+pub moved-none : (l : List ℕ) → l ≡ moved l 0
+unfolding moved
+moved-none l = refl
+
+pub moved-length : (l : List ℕ) (i : ℕ) → i + 2 ≤ length l → length (moved l i) ≡ length l
+unfolding moved
+moved-length l i h =
+    let e = length-take-le i (drop 2 l) (simp length-drop (omega arith)) in
+    length-append (take i (drop 2 l)) (drop i l) ∙ omega (arith, e, length-drop i l)
+
+module _ (l : List ℕ) (i : ℕ) (h : i + 2 < length l) where
+  front : length (take i (drop 2 l)) ≡ i
+  front = length-take-le i (drop 2 l) (simp length-drop (omega arith))
+
+  read : getD (moved l i) (i + 2) 0 ≡ getD (drop 2 l) i 0
+  unfolding moved
+  read =
+      ap (λ (k : ℕ). getD (moved l i) (k + 2) 0) (sym front)
+      ∙ getD-append-add (take i (drop 2 l)) (drop i l) 2 0
+      ∙ getD-drop i l 2 0
+      ∙ ap (λ (k : ℕ). getD l k 0) (omega arith)
+      ∙ sym (getD-drop 2 l i 0)
+
+  pub moved-more : set (moved l i) i (getD (moved l i) (i + 2) 0) ≡ moved l (i + 1)
+  unfolding moved
+  moved-more =
+      ap (λ (v : ℕ). set (moved l i) i v) read
+      ∙ ap (λ (r : List ℕ). set (take i (drop 2 l) ++ r) i (getD (drop 2 l) i 0)) (drop-cons l i 0 (omega arith))
+      ∙ set-at (take i (drop 2 l)) (getD l i 0) (drop (suc i) l) (getD (drop 2 l) i 0) i front
+      ∙ sym (append-snoc (take i (drop 2 l)) (getD (drop 2 l) i 0) (drop (suc i) l))
+      ∙ ap (λ (r : List ℕ). r ++ drop (suc i) l) (sym (take-suc (drop 2 l) i 0 (simp length-drop (omega arith))))
+      ∙ ap (λ (k : ℕ). moved l k) (sym (add-one i))
+
+two : (r : List ℕ) → length r ≡ 2 → (f : List ℕ) (m a b : ℕ) → length f ≡ m → set (set (f ++ r) m a) (m + 1) b ≡ f ++ (a ∷ b ∷ [])
+two [] e f m a b h = absurd (omega arith)
+two (u ∷ []) e f m a b h = absurd (omega arith)
+two (u ∷ v ∷ w ∷ r) e f m a b h = absurd (omega arith)
+two (u ∷ v ∷ []) e f m a b h =
+    ap (λ (t : List ℕ). set t (m + 1) b) (set-at f u (v ∷ []) a m h ∙ sym (append-snoc f a (v ∷ [])))
+    ∙ set-at (f ++ (a ∷ [])) v [] b (m + 1) (length-append f (a ∷ []) ∙ ap (λ (k : ℕ). k + 1) h)
+    ∙ append-snoc f a (b ∷ [])
+
+pub moved-last : (l : List ℕ) (m : ℕ) → m + 2 ≡ length l
+    → set (set (moved l m) m (getD l 0 0)) (m + 1) (getD l 1 0) ≡ drop 2 l ++ take 2 l
+unfolding moved
+moved-last [] m e = absurd (omega arith)
+moved-last (x ∷ []) m e = absurd (omega arith)
+moved-last (x ∷ y ∷ l) m e =
+    ap (λ (f : List ℕ). set (set (f ++ drop m (x ∷ y ∷ l)) m x) (m + 1) y) (take-all m l (omega arith))
+    ∙ two (drop m (x ∷ y ∷ l)) (simp length-drop (omega arith)) l m x y (omega arith)
+
+pub short : (l : List ℕ) → length l < 2 → l ≡ drop 2 l ++ take 2 l
+short [] h = refl
+short (x ∷ []) h = refl
+short (x ∷ y ∷ l) h = absurd (omega arith)
+
+-- the entry at word a made the last before word e
+module _ (P M R : List ℕ) (h f v a e : ℕ) (p : length P ≡ a) (q : a + 2 + length M ≡ e) where
+  stored : set (P ++ (h ∷ f ∷ (M ++ R))) (a + 1) v ≡ P ++ (h ∷ v ∷ (M ++ R))
+  stored =
+      ap (λ (l : List ℕ). set l (a + 1) v) (sym (append-snoc P h (f ∷ (M ++ R))))
+      ∙ set-at (P ++ (h ∷ [])) f (M ++ R) v (a + 1) (length-append P (h ∷ []) ∙ ap (λ (k : ℕ). k + 1) p)
+      ∙ append-snoc P h (v ∷ (M ++ R))
+
+  after : drop a (P ++ (h ∷ v ∷ (M ++ R))) ≡ h ∷ v ∷ (M ++ R)
+  after = drop-at P (h ∷ v ∷ (M ++ R)) a p
+
+  mid : midOf a (e - a) (P ++ (h ∷ v ∷ (M ++ R))) ≡ h ∷ v ∷ M
+  mid = ap (λ (l : List ℕ). take (e - a) l) after ∙ take-at (h ∷ v ∷ M) R (e - a) (omega arith)
+
+  post : postOf a (e - a) (P ++ (h ∷ v ∷ (M ++ R))) ≡ R
+  post = ap (λ (l : List ℕ). drop (e - a) l) after ∙ drop-at (h ∷ v ∷ M) R (e - a) (omega arith)
+
+  put : putMid a (e - a) (P ++ (h ∷ v ∷ (M ++ R))) (M ++ (h ∷ v ∷ [])) ≡ P ++ (M ++ (h ∷ v ∷ R))
+  put = rw (post, take-at P (h ∷ v ∷ (M ++ R)) a p, append-assoc M (h ∷ v ∷ []) R)
+
+  pub carried : (X L : List ℕ) → X ≡ P ++ (h ∷ f ∷ (M ++ R))
+      → L ≡ drop 2 (midOf a (e - a) (set X (a + 1) v)) ++ take 2 (midOf a (e - a) (set X (a + 1) v))
+      → putMid a (e - a) (set X (a + 1) v) L ≡ P ++ (M ++ (h ∷ v ∷ R))
+  carried X L x l =
+      let s : set X (a + 1) v ≡ P ++ (h ∷ v ∷ (M ++ R)) = ap (λ (z : List ℕ). set z (a + 1) v) x ∙ stored in
+      let m : midOf a (e - a) (set X (a + 1) v) ≡ h ∷ v ∷ M = ap (λ (z : List ℕ). midOf a (e - a) z) s ∙ mid in
+      ap (λ (z : List ℕ). putMid a (e - a) (set X (a + 1) v) z) (l ∙ ap (λ (z : List ℕ). drop 2 z ++ take 2 z) m)
+      ∙ ap (λ (z : List ℕ). putMid a (e - a) z (M ++ (h ∷ v ∷ []))) s
+      ∙ put
+
+-- the first i words of Y, then those of l
+pub over : List ℕ → List ℕ → ℕ → List ℕ
+over Y l i = take i Y ++ drop i l
+
+pub over-none : (Y l : List ℕ) → l ≡ over Y l 0
+unfolding over
+over-none Y l = refl
+
+module _ (Y l : List ℕ) (i : ℕ) (y : i < length Y) (h : i < length l) where
+  passed : length (take i Y) ≡ i
+  passed = length-take-le i Y (omega arith)
+
+  pub over-read : getD (over Y l i) i 0 ≡ getD l i 0
+  unfolding over
+  over-read =
+      ap (λ (k : ℕ). getD (over Y l i) k 0) (sym (omega (arith, passed)))
+      ∙ getD-append-add (take i Y) (drop i l) 0 0
+      ∙ getD-drop i l 0 0
+      ∙ ap (λ (k : ℕ). getD l k 0) (omega arith)
+
+  pub over-more : set (over Y l i) i (getD Y i 0) ≡ over Y l (i + 1)
+  unfolding over
+  over-more =
+      ap (λ (r : List ℕ). set (take i Y ++ r) i (getD Y i 0)) (drop-cons l i 0 h)
+      ∙ set-at (take i Y) (getD l i 0) (drop (suc i) l) (getD Y i 0) i passed
+      ∙ sym (append-snoc (take i Y) (getD Y i 0) (drop (suc i) l))
+      ∙ ap (λ (r : List ℕ). r ++ drop (suc i) l) (sym (take-suc Y i 0 y))
+      ∙ ap (λ (k : ℕ). over Y l k) (sym (add-one i))
+
+pub over-all : (Y l : List ℕ) → over Y l (length l) ≡ take (length l) Y
+unfolding over
+over-all Y l = ap (λ (r : List ℕ). take (length l) Y ++ r) (drop-length l) ∙ append-nil (take (length l) Y)
+
+-- a word put in at word a, and the last before word e out
+module _ (P M R : List ℕ) (h v a e : ℕ) (p : length P ≡ a) (q : a + length M + 1 ≡ e) where
+  pub pushed : (X L : List ℕ) → X ≡ P ++ (M ++ (h ∷ R)) → L ≡ take (length (midOf a (e - a) X)) (v ∷ midOf a (e - a) X) → putMid a (e - a) X L ≡ P ++ (v ∷ (M ++ R))
+  pushed X L x l =
+      let aft : drop a X ≡ M ++ (h ∷ R) = ap (λ (z : List ℕ). drop a z) x ∙ drop-at P (M ++ (h ∷ R)) a p in
+      let n : length (M ++ (h ∷ [])) ≡ e - a = length-append M (h ∷ []) ∙ omega arith in
+      let m : midOf a (e - a) X ≡ M ++ (h ∷ []) = ap (λ (z : List ℕ). take (e - a) z) (aft ∙ sym (append-snoc M h R)) ∙ take-at (M ++ (h ∷ [])) R (e - a) n in
+      let s : postOf a (e - a) X ≡ R = ap (λ (z : List ℕ). drop (e - a) z) (aft ∙ sym (append-snoc M h R)) ∙ drop-at (M ++ (h ∷ [])) R (e - a) n in
+      let k : L ≡ v ∷ M = l ∙ ap (λ (z : List ℕ). take (length z) (v ∷ z)) m ∙ take-at (v ∷ M) (h ∷ []) (length (M ++ (h ∷ []))) (omega (arith, length-append M (h ∷ []))) in
+      let f : take a X ≡ P = ap (λ (z : List ℕ). take a z) x ∙ take-at P (M ++ (h ∷ R)) a p in
+      rw (s, f, k)

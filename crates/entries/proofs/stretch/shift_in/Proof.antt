@@ -1,0 +1,78 @@
+use mathlib.Core.Path.{_≡_, refl, sym, ap, _∙_}
+use mathlib.Core.List.{List, _∷_}
+use Prim.Native.Nat.{ℕ, suc, _≤_, _+_, _-_}
+use native.Mathlib.Numerals.{add-one}
+use native.Mathlib.Omega.{arith}
+use lib.ListN.{length, getD, set, length-set}
+use Rattle.entries.proofs.Turning.{over, over-none, over-read, over-more, over-all}
+use Rattle.entries.proofs.stretch.shift_in.Statement.{statement}
+use Rattle.entries.proofs.stretch.shift_in.Tie as tie
+
+abbrev Inv-loop : tie.InvT-loop
+Inv-loop s₀ x n held₀ i₀ s held i = (i ≤ n) × (n ≡ length s₀) × (held ≡ getD (x ∷ s₀) i 0) × (s ≡ over (x ∷ s₀) s₀ i) × (length s ≡ length s₀)
+
+abbrev μ-loop : tie.MeasureT-loop
+μ-loop s₀ x n held₀ i₀ s held i = n - i
+
+loop-holds : tie.Need-loop-holds Inv-loop μ-loop
+loop-holds c = (omega arith, omega arith, refl, over-none _ _, refl)
+
+mul-next : tie.Need-mul-next Inv-loop μ-loop
+mul-next c = omega arith
+
+slice-read-next : tie.Need-slice-read-next Inv-loop μ-loop
+slice-read-next c = omega arith
+
+mul-s : tie.Need-mul-s Inv-loop μ-loop
+mul-s c = omega arith
+
+slice-write-s : tie.Need-slice-write-s Inv-loop μ-loop
+slice-write-s c = omega arith
+
+add-i : tie.Need-add-i Inv-loop μ-loop
+add-i c = omega arith
+
+loop-less : tie.Need-loop-less Inv-loop μ-loop
+loop-less c = omega arith
+
+loop-again : tie.Need-loop-again Inv-loop μ-loop
+loop-again c =
+    let i = c .before .before .loop .i in
+    let v = c .before .before .loop .inv in
+    let l = c .before .before .before .args .s .now in
+    let x = c .before .before .before .args .x in
+    let h : suc i ≤ length l = omega arith in
+    let y : suc i ≤ length (x ∷ l) = omega arith in (
+      omega arith,
+      refl,
+      ap (λ (r : List ℕ). getD r i 0) (v .3) ∙ over-read (x ∷ l) l i y h ∙ sym (ap (λ (k : ℕ). getD (x ∷ l) k 0) (add-one i)),
+      ap (λ (r : List ℕ). set r i (c .before .before .loop .held)) (v .3) ∙ ap (λ (k : ℕ). set (over (x ∷ l) l i) i k) (v .2) ∙ over-more (x ∷ l) l i y h,
+      simp length-set (v .4),
+    )
+
+same-length : tie.Need-same-length Inv-loop μ-loop
+same-length c = c .before .loop .inv .4
+
+returns : tie.Need-returns Inv-loop μ-loop
+returns c =
+    let l = c .before .before .args .s .now in
+    let x = c .before .before .args .x in
+    let e : c .before .loop .i ≡ length l = omega arith in
+    c .before .loop .inv .3 ∙ ap (λ (k : ℕ). over (x ∷ l) l k) e ∙ over-all (x ∷ l) l
+
+pub shift-in-spec : {M : Type 1} → statement M
+shift-in-spec =
+    tie.close
+    (tie.spec
+    Inv-loop
+    μ-loop
+    loop-holds
+    mul-next
+    slice-read-next
+    mul-s
+    slice-write-s
+    add-i
+    loop-less
+    loop-again
+    same-length
+    returns)

@@ -1,0 +1,101 @@
+// What the words of a list hold: where a page stands, how many entries have a flag, whether flags and pages are in order.
+// Nothing is written.
+ghost use mathlib.Core.Path.{_≡_};
+ghost use Prim.Native.Nat.{ℕ, _+_, _*_, _≤_, _<_};
+ghost use mathlib.Core.List.{List, _++_};
+ghost use lib.ListN.{length, take, drop};
+ghost use Rattle.figures.specs.Entry.{Entry, bits, long, total, differ};
+ghost use Rattle.figures.specs.Words.{words};
+ghost use Rattle.figures.specs.Sound.{allAtMost, flagWords};
+ghost use Rattle.entries.specs.Stretches.{index};
+
+// The place of the first of the n entries from word a on that is for page, or n.
+pub fn find(dir: &[u32], a: usize, n: usize, page: u32) -> usize
+    requires { ⌜ (a + 2 * n ≤ length (now dir)) × (length (now dir) ≤ 4104) ⌝ }
+    ensures { λ r. ⌜ (r ≤ n) × ((P R : List ℕ) (l : List Entry) → now (dir .entry) ≡ P ++ (words l ++ R) → length P ≡ a → length l ≡ n → r ≡ index page l) ⌝ }
+{
+    let mut i = 0;
+    while i < n {
+        if dir[a + 2 * i] == page {
+            return i;
+        }
+        i += 1;
+    }
+    n
+}
+
+// How many of the n entries from word a on have their reference bit set.
+pub fn count_set(dir: &[u32], a: usize, n: usize) -> u32
+    requires { ⌜ (a + 2 * n ≤ length (now dir)) × (length (now dir) ≤ 4104) ⌝ }
+    ensures { λ r. ⌜ (r ≤ n) × ((P R : List ℕ) (l : List Entry) → now (dir .entry) ≡ P ++ (words l ++ R) → length P ≡ a → length l ≡ n → r ≡ total bits l) ⌝ }
+{
+    let mut count = 0u32;
+    let mut i = 0;
+    while i < n {
+        count += dir[a + 2 * i + 1] % 2;
+        i += 1;
+    }
+    count
+}
+
+// How many of the n entries from word a on have the filter L.
+pub fn count_long(dir: &[u32], a: usize, n: usize) -> u32
+    requires { ⌜ (a + 2 * n ≤ length (now dir)) × (length (now dir) ≤ 4104) ⌝ }
+    ensures { λ r. ⌜ (r ≤ n) × ((P R : List ℕ) (l : List Entry) → now (dir .entry) ≡ P ++ (words l ++ R) → length P ≡ a → length l ≡ n → r ≡ total long l) ⌝ }
+{
+    let mut count = 0u32;
+    let mut i = 0;
+    while i < n {
+        count += dir[a + 2 * i + 1] / 2 % 2;
+        i += 1;
+    }
+    count
+}
+
+// Whether the flags of the first n entries are at most 3.
+pub fn flags_known(dir: &[u32], n: usize) -> bool
+    requires { ⌜ (8 + 2 * n ≤ length (now dir)) × (length (now dir) ≤ 4104) ⌝ }
+    ensures { λ r. ⌜ r ≡ allAtMost 3 (flagWords (take (2 * n) (drop 8 (now (dir .entry))))) ⌝ }
+{
+    let mut i = 0;
+    while i < n {
+        if 3 < dir[8 + 2 * i + 1] {
+            return false;
+        }
+        i += 1;
+    }
+    true
+}
+
+// Whether the words from a on are zero.
+pub fn all_zero(dir: &[u32], a: usize) -> bool
+    requires { ⌜ a ≤ length (now dir) ⌝ }
+    ensures { λ r. ⌜ r ≡ allAtMost 0 (drop a (now (dir .entry))) ⌝ }
+{
+    let mut i = a;
+    while i < dir.len() {
+        if dir[i] != 0 {
+            return false;
+        }
+        i += 1;
+    }
+    true
+}
+
+// Whether the pages of the first n entries differ.
+pub fn pages_differ(dir: &[u32], n: usize) -> bool
+    requires { ⌜ (8 + 2 * n ≤ length (now dir)) × (length (now dir) ≤ 4104) ⌝ }
+    ensures { λ r. ⌜ ((P R : List ℕ) (l : List Entry) → now (dir .entry) ≡ P ++ (words l ++ R) → length P ≡ 8 → length l ≡ n → r ≡ differ l) ⌝ }
+{
+    let mut i = 0;
+    while i < n {
+        let rest = n - i - 1;
+        let page = dir[8 + 2 * i];
+        let at = find(dir, 8 + 2 * i + 2, rest, page);
+        if at < rest {
+            return false;
+        }
+        i += 1;
+    }
+    true
+}

@@ -1,0 +1,68 @@
+// A stretch of words turned by one entry, and an entry put in: two words each.
+// What stands before and after the stretch stays.
+ghost use mathlib.Core.Path.{_≡_};
+ghost use Prim.Native.Nat.{ℕ, _+_, _≤_};
+ghost use mathlib.Core.List.{List, _∷_, _++_};
+ghost use lib.ListN.{length, take, drop};
+
+// Turns s by one entry: the first becomes the last. One word or none stays.
+fn turn(s: &mut [u32])
+    ensures { λ _. ⌜ now (s .exit) ≡ drop 2 (now (s .entry)) ++ take 2 (now (s .entry)) ⌝ }
+{
+    let n = s.len();
+    if n < 2 {
+        return;
+    }
+    let a = s[0];
+    let b = s[1];
+    let m = n - 2;
+    let mut i = 0;
+    while i < m {
+        s[i] = s[i + 2];
+        i += 1;
+    }
+    s[m] = a;
+    s[m + 1] = b;
+}
+
+// Makes the entry at word a the last before word e, with new flags.
+pub fn to_end(dir: &mut [u32], a: usize, e: usize, flags: u32)
+    requires { ⌜ (a + 2 ≤ e) × (e ≤ length (now dir)) ⌝ }
+    ensures { λ _. ⌜ ((P M R : List ℕ) (h f : ℕ) → now (dir .entry) ≡ P ++ (h ∷ f ∷ (M ++ R)) → length P ≡ a → a + 2 + length M ≡ e → now (dir .exit) ≡ P ++ (M ++ (h ∷ flags ∷ R))) ⌝ }
+{
+    dir[a + 1] = flags;
+    turn(&mut dir[a..e]);
+}
+
+// Puts x in front of the words of s, the last of which falls out.
+fn shift_in(s: &mut [u32], x: u32)
+    ensures { λ _. ⌜ now (s .exit) ≡ take (length (now (s .entry))) (x ∷ now (s .entry)) ⌝ }
+{
+    let n = s.len();
+    let mut held = x;
+    let mut i = 0;
+    while i < n {
+        let next = s[i];
+        s[i] = held;
+        held = next;
+        i += 1;
+    }
+}
+
+// Puts an entry in at word a; the last entry before word e falls out.
+pub fn put_in(dir: &mut [u32], a: usize, e: usize, page: u32, flags: u32)
+    requires { ⌜ (a ≤ e) × (e ≤ length (now dir)) ⌝ }
+    ensures { λ _. ⌜ ((P M R : List ℕ) (h f : ℕ) → now (dir .entry) ≡ P ++ (M ++ (h ∷ f ∷ R)) → length P ≡ a → a + length M + 2 ≡ e → now (dir .exit) ≡ P ++ (page ∷ flags ∷ (M ++ R))) ⌝ }
+{
+    shift_in(&mut dir[a..e], flags);
+    shift_in(&mut dir[a..e], page);
+}
+
+// Takes the entry at word a out of the words before e, and leaves two zeros at their end.
+pub fn take_out(dir: &mut [u32], a: usize, e: usize)
+    requires { ⌜ (a + 2 ≤ e) × (e ≤ length (now dir)) ⌝ }
+    ensures { λ _. ⌜ ((P M R : List ℕ) (h f : ℕ) → now (dir .entry) ≡ P ++ (h ∷ f ∷ (M ++ R)) → length P ≡ a → a + 2 + length M ≡ e → now (dir .exit) ≡ P ++ (M ++ (0 ∷ 0 ∷ R))) ⌝ }
+{
+    dir[a] = 0;
+    to_end(dir, a, e, 0);
+}

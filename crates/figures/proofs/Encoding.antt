@@ -1,0 +1,173 @@
+-- Words and directories are two forms of one thing: what is encoded decodes to itself, and sound words are those of a directory.
+-- The four lists are read at once where they can be: the words of all listed entries are the words in use.
+use mathlib.Core.Path.{_≡_, refl, sym, ap, _∙_}
+use mathlib.Core.Bool.{Bool, true, false, false≢true, and-eq-true-iff}
+use mathlib.Core.Logic.{_↔_}
+use mathlib.Core.List.{List, [], _∷_, _++_, append-assoc}
+use Prim.Native.Nat.{ℕ, zero, suc, _+_, _-_, _*_, _≤_, _<_}
+use native.Mathlib.Nat.{zero-add, suc-add, add-assoc, mul-add}
+use native.Mathlib.Omega.{arith}
+use lib.ListN.{getD, take, drop, replicate, length-append, length-drop, length-replicate, take-append-drop}
+use lib.Seq.{drop-nil, drop-cons, drop-drop, drop-at, take-at}
+use lib.Dec.{eqb, leb, ltb}
+use borrow.Author.Tests.{ltb-true, lt-ltb, leb-true, le-leb, eqb-true, eq-eqb}
+use Rattle.figures.specs.Choice.{if_then_else_, ∣_∣}
+use Rattle.figures.specs.Entry.{Entry, Filter, S, L}
+use Rattle.figures.specs.Directory.{Directory, cached, remembered, listed}
+use Rattle.figures.specs.Words.{flags, entry, words, entries, size, nT1, nT2, nB1, nB2, used, unused, zeros, encode, decode}
+use Rattle.figures.specs.Sound.{allAtMost, flagWords, sound}
+use Rattle.figures.specs.Demands.{WordsAreDirectories, WordsFit}
+
+-- TESTS READ AS FACTS: `simp reads` turns a list of tests that all hold into a product of facts, and back.
+
+pub leb-iff : (a b : ℕ) → (leb a b ≡ true) ↔ (a ≤ b)
+leb-iff a b = (leb-true a b, le-leb a b)
+
+pub ltb-iff : (a b : ℕ) → (ltb a b ≡ true) ↔ (a < b)
+ltb-iff a b = (ltb-true a b, lt-ltb a b)
+
+pub eqb-iff : (a b : ℕ) → (eqb a b ≡ true) ↔ (a ≡ b)
+eqb-iff a b = (eqb-true a b, eq-eqb a b)
+
+pub both-iff : (a b : Bool) → ((if a then b else false) ≡ true) ↔ ((a ≡ true) × (b ≡ true))
+both-iff true b = (λ h. (refl, h), λ h. h .1)
+both-iff false b = (λ h. absurd (false≢true h), λ h. h .0)
+
+pub when-iff : (a b : Bool) → ((if a then b else true) ≡ true) ↔ (a ≡ true → b ≡ true)
+when-iff true b = (λ h i. h, λ h. h refl)
+when-iff false b = (λ h i. absurd (false≢true i), λ h. refl)
+
+pub unless-iff : (a b : Bool) → ((if a then false else b) ≡ true) ↔ ((a ≡ false) × (b ≡ true))
+unless-iff true b = (λ h. absurd (false≢true h), λ h. sym (h .0))
+unless-iff false b = (λ h. (refl, h), λ h. h .1)
+
+pub ruleset reads = (both-iff, when-iff, unless-iff, and-eq-true-iff, leb-iff, ltb-iff, eqb-iff)
+
+-- ENTRIES AND THEIR WORDS
+
+entry-flags : (e : Entry) → entry (e .page) (flags e) ≡ e
+entry-flags e = go (e .page) (e .bit) (e .filter)
+  where
+    go : (page : ℕ) (bit : Bool) (filter : Filter)
+        → (let e : Entry = record { page = page; bit = bit; filter = filter } in entry page (flags e) ≡ e)
+    go page true S = refl
+    go page true L = refl
+    go page false S = refl
+    go page false L = refl
+
+flags-entry : (page f : ℕ) → f ≤ 3 → flags (entry page f) ≡ f
+flags-entry page zero h = refl
+flags-entry page (suc zero) h = refl
+flags-entry page (suc (suc zero)) h = refl
+flags-entry page (suc (suc (suc zero))) h = refl
+flags-entry page (suc (suc (suc (suc f)))) h = absurd (omega arith)
+
+pub length-words : (l : List Entry) → ∣ words l ∣ ≡ 2 * ∣ l ∣
+length-words [] = refl
+length-words (e ∷ l) = let h = length-words l in omega arith
+
+pub words-append : (a b : List Entry) → words (a ++ b) ≡ words a ++ words b
+words-append [] b = refl
+words-append (e ∷ a) b = rw (words-append a b)
+
+pub drop-words : (l : List Entry) (rest : List ℕ) → drop (2 * ∣ l ∣) (words l ++ rest) ≡ rest
+drop-words l rest = drop-at (words l) rest _ (length-words l)
+
+pub entries-words : (l : List Entry) (rest : List ℕ) → entries ∣ l ∣ (words l ++ rest) ≡ l
+entries-words [] rest = refl
+entries-words (e ∷ l) rest = cc (entry-flags e, entries-words l rest)
+
+pub length-entries : (n : ℕ) (w : List ℕ) → 2 * n ≤ ∣ w ∣ → ∣ entries n w ∣ ≡ n
+length-entries zero w h = refl
+length-entries (suc n) [] h = absurd (omega arith)
+length-entries (suc n) (page ∷ []) h = absurd (omega arith)
+length-entries (suc n) (page ∷ f ∷ w) h = ap suc (length-entries n w (omega arith))
+
+twice-suc : (n : ℕ) → 2 * suc n ≡ suc (suc (2 * n))
+twice-suc n = omega arith
+
+entries-none : (n : ℕ) → entries n [] ≡ []
+entries-none zero = refl
+entries-none (suc n) = refl
+
+pub entries-add : (m n : ℕ) (w : List ℕ) → entries (m + n) w ≡ entries m w ++ entries n (drop (2 * m) w)
+entries-add zero n w = rw zero-add
+entries-add (suc m) n [] = rw (suc-add, drop-nil, entries-none n)
+entries-add (suc m) n (page ∷ []) = rw (suc-add, twice-suc, entries-none n)
+entries-add (suc m) n (page ∷ f ∷ w) = rw (suc-add, twice-suc, entries-add m n w)
+
+pub words-entries : (n : ℕ) (w : List ℕ) → 2 * n ≤ ∣ w ∣ → allAtMost 3 (flagWords (take (2 * n) w)) ≡ true
+    → words (entries n w) ≡ take (2 * n) w
+words-entries zero w h small = refl
+words-entries (suc n) [] h small = absurd (omega arith)
+words-entries (suc n) (page ∷ []) h small = absurd (omega arith)
+words-entries (suc n) (page ∷ f ∷ w) h small =
+    let said = simp (twice-suc, reads) at small in
+    rw (twice-suc, flags-entry page f (said .0), words-entries n w (omega arith) (said .1))
+
+-- FROM A DIRECTORY TO WORDS AND BACK
+
+pub decode-encode : (d : Directory) → decode (encode d) ≡ d
+unfolding decode
+decode-encode d = simp (mul-add, ← add-assoc, ← drop-drop, drop-words, entries-words)
+
+pub one-to-one : (d d′ : Directory) → encode d ≡ encode d′ → d ≡ d′
+one-to-one d d′ h = sym (decode-encode d) ∙ ap decode h ∙ decode-encode d′
+
+pub words-fit : WordsFit
+words-fit d h = simp (length-append, length-words, length-replicate) (omega arith)
+
+encode-listed : (d : Directory) → drop 8 (encode d) ≡ words (listed d) ++ zeros d
+encode-listed d = simp (words-append, append-assoc)
+
+length-listed : (d : Directory) → ∣ words (listed d) ∣ ≡ used (encode d)
+length-listed d = simp (length-words, length-append) (omega arith)
+
+pub used-words : (d : Directory) → take (used (encode d)) (drop 8 (encode d)) ≡ words (listed d)
+used-words d = rw encode-listed (take-at (words (listed d)) (zeros d) _ (length-listed d))
+
+pub unused-words : (d : Directory) → unused (encode d) ≡ zeros d
+unused-words d = rw (← drop-drop, encode-listed) (drop-at (words (listed d)) (zeros d) _ (length-listed d))
+
+-- FROM SOUND WORDS TO A DIRECTORY AND BACK
+
+listed-decode : (w : List ℕ) → listed (decode w) ≡ entries (nT1 w + nT2 w + (nB1 w + nB2 w)) (drop 8 w)
+unfolding decode
+listed-decode w = simp (mul-add, ← add-assoc, entries-add, drop-drop, append-assoc)
+
+all-zero : (w : List ℕ) → allAtMost 0 w ≡ true → w ≡ replicate ∣ w ∣ 0
+all-zero [] h = refl
+all-zero (x ∷ w) h =
+    let said = simp reads at h in
+    let x-zero : x ≡ 0 = omega arith in
+    cc (all-zero w (said .1))
+
+-- The words from i on, the first n of them one by one.
+abbrev wordsFrom : ℕ → ℕ → List ℕ → List ℕ
+wordsFrom i zero w = drop i w
+wordsFrom i (suc n) w = getD w i 0 ∷ wordsFrom (suc i) n w
+
+one-by-one : (w : List ℕ) (n i : ℕ) → i + n ≤ ∣ w ∣ → wordsFrom i n w ≡ drop i w
+one-by-one w zero i h = refl
+one-by-one w (suc n) i h = rw (drop-cons w i 0 (omega arith), one-by-one w n (suc i) (omega arith))
+
+pub encode-decode : (w : List ℕ) → sound w ≡ true → encode (decode w) ≡ w
+unfolding sound decode
+encode-decode w h =
+    let said = simp reads at h in
+    let small : allAtMost 3 (flagWords (take (used w) (drop 8 w))) ≡ true = search in
+    let zero-words : allAtMost 0 (unused w) ≡ true = search in
+    let t1 = length-entries (nT1 w) (drop 8 w) (simp length-drop (omega arith)) in
+    let t2 = length-entries (nT2 w) (drop (8 + 2 * nT1 w) w) (simp length-drop (omega arith)) in
+    let b1 = length-entries (nB1 w) (drop (8 + 2 * (nT1 w + nT2 w)) w) (simp length-drop (omega arith)) in
+    let b2 = length-entries (nB2 w) (drop (8 + 2 * (nT1 w + nT2 w + nB1 w)) w) (simp length-drop (omega arith)) in
+    let used-part : words (listed (decode w)) ≡ take (used w) (drop 8 w) =
+    rw listed-decode (words-entries (nT1 w + nT2 w + (nB1 w + nB2 w)) (drop 8 w) (simp length-drop (omega arith)) small) in
+    let rest : 4 * size w - 2 * (cached (decode w) + remembered (decode w)) ≡ ∣ unused w ∣ = simp length-drop (omega arith) in
+    let zero-part : zeros (decode w) ≡ unused w = rw rest (sym (all-zero (unused w) zero-words)) in
+    let body : drop 8 (encode (decode w)) ≡ drop 8 w =
+    rw (encode-listed, used-part, zero-part, ← drop-drop) (take-append-drop (used w) (drop 8 w)) in
+    cc (one-by-one w 8 0 (omega arith))
+
+pub words-are-directories : WordsAreDirectories
+words-are-directories = record { decode-encode = decode-encode; encode-decode = encode-decode; one-to-one = one-to-one }
