@@ -131,7 +131,11 @@ unused-words d = rw (← drop-drop, encode-listed) (drop-at (words (listed d)) (
 
 -- FROM SOUND WORDS TO A DIRECTORY AND BACK
 
-listed-decode : (w : List ℕ) → listed (decode w) ≡ entries (nT1 w + nT2 w + (nB1 w + nB2 w)) (drop 8 w)
+-- How many entries the length words state, all lists together.
+abbrev stated : List ℕ → ℕ
+stated w = nT1 w + nT2 w + (nB1 w + nB2 w)
+
+listed-decode : (w : List ℕ) → listed (decode w) ≡ entries (stated w) (drop 8 w)
 unfolding decode
 listed-decode w = simp (mul-add, ← add-assoc, entries-add, drop-drop, append-assoc)
 
@@ -155,18 +159,18 @@ pub encode-decode : (w : List ℕ) → sound w ≡ true → encode (decode w) �
 unfolding sound decode
 encode-decode w h =
     let said = simp reads at h in
-    let small : allAtMost 3 (flagWords (take (used w) (drop 8 w))) ≡ true = search in
-    let zero-words : allAtMost 0 (unused w) ≡ true = search in
+    let flags-small : allAtMost 3 (flagWords (take (used w) (drop 8 w))) ≡ true = search in
+    let unused-small : allAtMost 0 (unused w) ≡ true = search in
     let t1 = length-entries (nT1 w) (drop 8 w) (simp length-drop (omega arith)) in
     let t2 = length-entries (nT2 w) (drop (8 + 2 * nT1 w) w) (simp length-drop (omega arith)) in
     let b1 = length-entries (nB1 w) (drop (8 + 2 * (nT1 w + nT2 w)) w) (simp length-drop (omega arith)) in
     let b2 = length-entries (nB2 w) (drop (8 + 2 * (nT1 w + nT2 w + nB1 w)) w) (simp length-drop (omega arith)) in
     let used-part : words (listed (decode w)) ≡ take (used w) (drop 8 w) =
-    rw listed-decode (words-entries (nT1 w + nT2 w + (nB1 w + nB2 w)) (drop 8 w) (simp length-drop (omega arith)) small) in
+    rw listed-decode (words-entries (stated w) (drop 8 w) (simp length-drop (omega arith)) flags-small) in
     let rest : 4 * size w - 2 * (cached (decode w) + remembered (decode w)) ≡ ∣ unused w ∣ = simp length-drop (omega arith) in
-    let zero-part : zeros (decode w) ≡ unused w = rw rest (sym (all-zero (unused w) zero-words)) in
+    let unused-part : zeros (decode w) ≡ unused w = rw rest (sym (all-zero (unused w) unused-small)) in
     let body : drop 8 (encode (decode w)) ≡ drop 8 w =
-    rw (encode-listed, used-part, zero-part, ← drop-drop) (take-append-drop (used w) (drop 8 w)) in
+    rw (encode-listed, used-part, unused-part, ← drop-drop) (take-append-drop (used w) (drop 8 w)) in
     cc (one-by-one w 8 0 (omega arith))
 
 pub words-are-directories : WordsAreDirectories

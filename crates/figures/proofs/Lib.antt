@@ -5,7 +5,10 @@ pub mod Repeats
 pub mod Encoding
 pub mod Facts
 pub mod Requests
+pub mod Soundness
 pub mod Turns
 pub mod Car
+pub mod CartTurns
+pub mod Cart
 pub mod Placing
 pub mod Reached

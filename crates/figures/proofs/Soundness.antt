@@ -1,0 +1,92 @@
+-- The test of soundness says of a directory's words just what Facts says of its value.
+-- `simp reads` of Encoding turns the test into facts, and facts into the test.
+use mathlib.Core.Path.{_≡_, refl}
+use mathlib.Core.Bool.{Bool, true, false}
+use mathlib.Core.Logic.{_↔_}
+use mathlib.Core.List.{List, [], _∷_}
+use Prim.Native.Nat.{ℕ, zero, suc, _+_, _-_, _*_, _≤_}
+use native.Mathlib.Omega.{arith}
+use lib.ListN.{take, drop, replicate}
+use lib.Dec.{eqb}
+use borrow.Author.Tests.{eqb-true}
+use Rattle.figures.specs.Choice.{if_then_else_}
+use Rattle.figures.specs.Entry.{Entry, Filter, S, L, longOf, total, differ}
+use Rattle.figures.specs.Directory.{Directory, cached, remembered, listed, inCache}
+use Rattle.figures.specs.Words.{flags, words, used, unused, encode, decode}
+use Rattle.figures.specs.Sound.{allAtMost, flagWords, carSound, cartSound, sound}
+use Rattle.figures.specs.Demands.{Sound}
+use Rattle.figures.proofs.Lists.{is, is-itself, total-append, lacks-counts, counts-lacks}
+use Rattle.figures.proofs.Facts.{inHistory, CarFacts, CartFacts, Facts}
+use Rattle.figures.proofs.Encoding.{reads, decode-encode, encode-decode, words-fit, used-words, unused-words}
+
+-- Pages that differ are pages that count at most once.
+differ-counts : (l : List Entry) → differ l ≡ true → (x : ℕ) → total (is x) l ≤ 1
+differ-counts [] h x = omega arith
+differ-counts (e ∷ l) h x =
+    let said = simp reads at h in
+    go (eqb (e .page) x) refl (lacks-counts (e .page) l (said .0)) (differ-counts l (said .1) x)
+  where
+    go : (b : Bool) → eqb (e .page) x ≡ b → total (is (e .page)) l ≡ 0 → total (is x) l ≤ 1
+        → (if b then 1 else 0) + total (is x) l ≤ 1
+    go true same none most = omega (arith, rw (eqb-true (e .page) x same) at none)
+    go false same none most = omega arith
+
+counts-differ : (l : List Entry) → ((x : ℕ) → total (is x) l ≤ 1) → differ l ≡ true
+counts-differ [] h = refl
+counts-differ (e ∷ l) h =
+    let lacks = counts-lacks (e .page) l (omega (arith, h (e .page), is-itself (e .page) e refl)) in
+    simp reads (lacks, counts-differ l (λ x. omega (arith, h x)))
+
+pub differ-iff : (l : List Entry) → (differ l ≡ true) ↔ ((x : ℕ) → total (is x) l ≤ 1)
+differ-iff l = (differ-counts l, counts-differ l)
+
+-- The tests that hold of every directory's words.
+flags-at-most : (e : Entry) → flags e ≤ 3
+flags-at-most e = go (e .bit) (e .filter)
+  where
+    go : (bit : Bool) (filter : Filter) → (if bit then 1 else 0) + 2 * longOf filter ≤ 3
+    go true S = omega arith
+    go true L = omega arith
+    go false S = omega arith
+    go false L = omega arith
+
+words-small : (l : List Entry) → allAtMost 3 (flagWords (words l)) ≡ true
+words-small [] = refl
+words-small (e ∷ l) = simp reads (flags-at-most e, words-small l)
+
+zeros-small : (n : ℕ) → allAtMost 0 (replicate n 0) ≡ true
+zeros-small zero = refl
+zeros-small (suc n) = zeros-small n
+
+module _ (d : Directory) where
+  flags-small : allAtMost 3 (flagWords (take (used (encode d)) (drop 8 (encode d)))) ≡ true
+  flags-small = rw used-words (words-small (listed d))
+
+  unused-small : allAtMost 0 (unused (encode d)) ≡ true
+  unused-small = rw unused-words (zeros-small (4 * d .c - 2 * (cached d + remembered d)))
+
+  total-listed : (count : Entry → ℕ) → total count (listed d) ≡ inCache count d + inHistory count d
+  total-listed count = simp total-append (omega arith)
+
+  -- What the test says of d. Its facts are those of Facts, in another order: search puts each in its place.
+  ruleset says = (decode-encode, reads, differ-iff, total-listed, total-append)
+
+  own-iff : (b : Bool) → ((if b then carSound (encode d) else cartSound (encode d)) ≡ true) ↔ (if b then CarFacts d else CartFacts d)
+  unfolding carSound cartSound
+  own-iff true = (λ h. let said = simp says at h in search, λ f. simp says search)
+  own-iff false = (λ h. let said = simp says at h in search, λ f. simp says search)
+
+  pub facts : Sound d → Facts d
+  unfolding sound
+  facts h = let said = simp (says, own-iff) at h in search
+
+  pub facts-sound : Facts d → Sound d
+  unfolding sound
+  facts-sound f =
+      let fits = words-fit d (omega arith) in
+      let flags-3 = flags-small in
+      let unused-0 = unused-small in
+      simp (says, own-iff) search
+
+pub facts-of-words : (w : List ℕ) → sound w ≡ true → Facts (decode w)
+facts-of-words w h = facts (decode w) (rw (encode-decode w h) h)
