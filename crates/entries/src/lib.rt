@@ -1,8 +1,8 @@
 // The lists of a directory in lent words: leaves that every rule of both policies is made of.
 // Nothing is copied out: a move turns one stretch of words in place and holds one entry.
-pub mod stretch;
 pub mod lists;
 pub mod search;
+pub mod stretch;
 
 // The target p counts in parts of a page, of which a page has so many.
 pub const UNIT: u32 = 1;

@@ -9,7 +9,6 @@ ghost use Rattle.figures.specs.Directory.{Directory, T1, T2, listOf, withList, 
 ghost use Rattle.figures.specs.Words.{flags, encode};
 ghost use Rattle.figures.specs.Request.{hit};
 ghost use Rattle.entries.specs.Stretches.{Room, nameOf, startOf, index};
-
 use crate::stretch;
 
 pub fn wide(x: u32) -> usize

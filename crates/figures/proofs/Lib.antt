@@ -12,3 +12,6 @@ pub mod CartTurns
 pub mod Cart
 pub mod Placing
 pub mod Reached
+pub mod Stops
+pub mod Kept
+pub mod Moves

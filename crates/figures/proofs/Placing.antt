@@ -32,6 +32,13 @@ module _ (x : ℕ) (d : Directory) where
   counted-cached h =
       in-either (has x (d .t1)) (has x (d .t2)) (λ a. counts-has x (d .t2) (omega (arith, lacks-counts x (d .t1) a)))
 
+  pub found-counted : has x (d .t1) || has x (d .t2) ≡ true → 1 ≤ inCache (is x) d
+  found-counted h = go (has x (d .t1)) refl h
+    where
+      go : (a : Bool) → has x (d .t1) ≡ a → a || has x (d .t2) ≡ true → 1 ≤ inCache (is x) d
+      go true e h = omega (arith, has-counts x (d .t1) e)
+      go false e h = omega (arith, has-counts x (d .t2) h)
+
   in-neither : (a b : Bool) → a || b ≡ false → (a ≡ false) × (b ≡ false)
   in-neither true b h = absurd (true≢false h)
   in-neither false b h = (refl, h)
@@ -40,6 +47,15 @@ module _ (x : ℕ) (d : Directory) where
   missed-uncounted h =
       let n = in-neither (has x (d .t1)) (has x (d .t2)) h in
       omega (arith, lacks-counts x (d .t1) (n .0), lacks-counts x (d .t2) (n .1))
+
+-- A hit marks an entry of T1, or else of T2: what holds of both outcomes holds of it.
+pub hit-either : (P : Directory → Type 0) (x : ℕ) (d : Directory)
+    → P (withList T1 (mark x (d .t1)) d) → P (withList T2 (mark x (d .t2)) d) → P (hit x d)
+hit-either P x d in-T1 in-T2 = go (has x (d .t1))
+  where
+    go : (b : Bool) → P (if b then withList T1 (mark x (d .t1)) d else withList T2 (mark x (d .t2)) d)
+    go true = in-T1
+    go false = in-T2
 
 -- A hit: T1 and T2 hold the same pages afterwards.
 module _ (d : Directory) (shared : Shared d) where
@@ -58,21 +74,19 @@ module _ (d : Directory) (shared : Shared d) where
   }
 
   pub hit-keeps : (x : ℕ) → Shared (hit x d)
-  hit-keeps x = go (has x (d .t1))
+  hit-keeps x =
+      hit-either Shared x d
+      (same-pages-keep (mark x (d .t1)) (d .t2) (length-marked x (d .t1)) refl (marked-same (d .t1)) (λ y. refl))
+      (same-pages-keep (d .t1) (mark x (d .t2)) refl (length-marked x (d .t2)) (λ y. refl) (marked-same (d .t2)))
     where
       marked-same : (l : List Entry) (y : ℕ) → total (is y) (mark x l) ≡ total (is y) l
       marked-same l y = total-marked-same (is y) (λ e. refl) x l
 
-      go : (b : Bool) → Shared (if b then withList T1 (mark x (d .t1)) d else withList T2 (mark x (d .t2)) d)
-      go true = same-pages-keep (mark x (d .t1)) (d .t2) (length-marked x (d .t1)) refl (marked-same (d .t1)) (λ y. refl)
-      go false = same-pages-keep (d .t1) (mark x (d .t2)) refl (length-marked x (d .t2)) (λ y. refl) (marked-same (d .t2))
-
-  pub hit-cached : (x : ℕ) → inCache (is x) (hit x d) ≡ inCache (is x) d
-  hit-cached x = go (has x (d .t1))
-    where
-      go : (b : Bool) → inCache (is x) (if b then withList T1 (mark x (d .t1)) d else withList T2 (mark x (d .t2)) d) ≡ inCache (is x) d
-      go true = omega (arith, total-marked-same (is x) (λ e. refl) x (d .t1))
-      go false = omega (arith, total-marked-same (is x) (λ e. refl) x (d .t2))
+pub hit-cached : (x : ℕ) (d : Directory) → inCache (is x) (hit x d) ≡ inCache (is x) d
+hit-cached x d =
+    hit-either (λ d′. inCache (is x) d′ ≡ inCache (is x) d) x d
+    (omega (arith, total-marked-same (is x) (λ e. refl) x (d .t1)))
+    (omega (arith, total-marked-same (is x) (λ e. refl) x (d .t2)))
 
 -- A directory with room for page x, which it does not list.
 pub record Roomy (x : ℕ) (d : Directory) : Type 0 where
@@ -257,36 +271,41 @@ raised P nS d any = go (leb (d .c) (∣ d .t2 ∣ + ∣ d .b2 ∣ + ∣ d .t1 �
     go false = any (d .q)
 
 -- What a page that comes back leaves: the cache has it, and both policies' common rules hold.
-pub record CameBack (x : ℕ) (d : Directory) : Type 0 where
-  pub shared : Shared d
-  pub is-cached : 1 ≤ inCache (is x) d
+pub record CameBack (x : ℕ) (d d′ : Directory) : Type 0 where
+  pub shared : Shared d′
+  pub is-cached : 1 ≤ inCache (is x) d′
+  pub same-policy : d′ .policy ≡ d .policy
+  pub same-c : d′ .c ≡ d .c
 
-came-back : (x : ℕ) (d d′ : Directory) → Open x d → d′ .c ≡ d .c → d′ .p ≤ unit * d .c → Enters x d d′ → Leaves x d d′ → CameBack x d′
-came-back x d d′ o c p e l = record {
+came-back : (x : ℕ) (d d′ : Directory) → Open x d → d′ .policy ≡ d .policy → d′ .c ≡ d .c → d′ .p ≤ unit * d .c → Enters x d d′ → Leaves x d d′
+    → CameBack x d d′
+came-back x d d′ o policy c p e l = record {
   shared = back-keeps x d d′ o c p e l;
   is-cached = omega (arith, e .pages x, ap {B = ℕ} (λ (b : Bool). if b then 1 else 0) (eq-eqb x x refl));
+  same-policy = policy;
+  same-c = c;
 }
 
 module _ (x : ℕ) (h : Hand) (o : Open x (h .dir)) where
-  pub car-B1-back : has x (h .dir .b1) ≡ true → CameBack x (Car.placeB1 x h)
+  pub car-B1-back : has x (h .dir .b1) ≡ true → CameBack x (h .dir) (Car.placeB1 x h)
   unfolding Car.placeB1
   car-B1-back found =
-      came-back x (h .dir) _ o refl (omega arith) (enters-T2 x (h .dir) _ (newShort x) refl refl refl) (leaves-B1 x (h .dir) _ found refl refl)
+      came-back x (h .dir) _ o refl refl (omega arith) (enters-T2 x (h .dir) _ (newShort x) refl refl refl) (leaves-B1 x (h .dir) _ found refl refl)
 
-  pub car-B2-back : has x (h .dir .b2) ≡ true → CameBack x (Car.placeB2 x h)
+  pub car-B2-back : has x (h .dir .b2) ≡ true → CameBack x (h .dir) (Car.placeB2 x h)
   unfolding Car.placeB2
   car-B2-back found =
       let p = o .p-fits in
-      came-back x (h .dir) _ o refl (omega arith) (enters-T2 x (h .dir) _ (newShort x) refl refl refl) (leaves-B2 x (h .dir) _ found refl refl)
+      came-back x (h .dir) _ o refl refl (omega arith) (enters-T2 x (h .dir) _ (newShort x) refl refl refl) (leaves-B2 x (h .dir) _ found refl refl)
 
-  pub cart-B1-back : has x (h .dir .b1) ≡ true → CameBack x (Cart.placeB1 x h)
+  pub cart-B1-back : has x (h .dir .b1) ≡ true → CameBack x (h .dir) (Cart.placeB1 x h)
   unfolding Cart.placeB1
   cart-B1-back found =
-      came-back x (h .dir) _ o refl (omega arith) (enters-T1 x (h .dir) _ (newLong x) refl refl refl) (leaves-B1 x (h .dir) _ found refl refl)
+      came-back x (h .dir) _ o refl refl (omega arith) (enters-T1 x (h .dir) _ (newLong x) refl refl refl) (leaves-B1 x (h .dir) _ found refl refl)
 
-  pub cart-B2-back : has x (h .dir .b2) ≡ true → CameBack x (Cart.placeB2 x h)
+  pub cart-B2-back : has x (h .dir .b2) ≡ true → CameBack x (h .dir) (Cart.placeB2 x h)
   unfolding Cart.placeB2
   cart-B2-back found =
       let p = o .p-fits in
-      raised (CameBack x) (h .nS) _ (λ q.
-      came-back x (h .dir) _ o refl (omega arith) (enters-T1 x (h .dir) _ (newLong x) refl refl refl) (leaves-B2 x (h .dir) _ found refl refl))
+      raised (CameBack x (h .dir)) (h .nS) (Cart.backFromB2 x h) (λ q.
+      came-back x (h .dir) _ o refl refl (omega arith) (enters-T1 x (h .dir) _ (newLong x) refl refl refl) (leaves-B2 x (h .dir) _ found refl refl))

@@ -1,6 +1,6 @@
 -- How a request goes, by its tests; and a run, request by request.
 -- Whatever is proved of requests goes by these cases.
-use mathlib.Core.Path.{_≡_, refl, sym, ap, _∙_}
+use mathlib.Core.Path.{_≡_, refl, sym, ap, _∙_, subst}
 use mathlib.Core.Bool.{Bool, true, false, _||_}
 use mathlib.Core.List.{List, [], _∷_, _++_}
 use Prim.Native.Nat.{ℕ, _+_}
@@ -31,6 +31,19 @@ module _ (π : Policy) (x : ℕ) (d : Directory) where
   pub serve-full : has x (d .t1) || has x (d .t2) ≡ false → eqb (cached d) (d .c) ≡ true → serve π x d ≡ missed π x (π .evict d)
   serve-full h full = serve-miss h ∙ ap miss full
 
+  -- What holds in each case holds of the request.
+  pub serve-by-cases : (P : Served → Type 0)
+      → (has x (d .t1) || has x (d .t2) ≡ true → P (still 0 (hit x d)))
+      → (has x (d .t1) || has x (d .t2) ≡ false → eqb (cached d) (d .c) ≡ false → P (still 1 (π .placeNew x d)))
+      → (has x (d .t1) || has x (d .t2) ≡ false → eqb (cached d) (d .c) ≡ true → P (missed π x (π .evict d)))
+      → P (serve π x d)
+  serve-by-cases P by-hit by-room by-full = go (has x (d .t1) || has x (d .t2)) (eqb (cached d) (d .c)) refl refl
+    where
+      go : (found full : Bool) → has x (d .t1) || has x (d .t2) ≡ found → eqb (cached d) (d .c) ≡ full → P (serve π x d)
+      go true full e f = subst P (sym (serve-hit e)) (by-hit e)
+      go false false e f = subst P (sym (serve-room e f)) (by-room e f)
+      go false true e f = subst P (sym (serve-full e f)) (by-full e f)
+
 module _ (π : Policy) (x : ℕ) (h : Hand) where
   abbrev elsewhere : Bool → Served
   elsewhere inB2 = if inB2 then evicted 4 h (π .placeB2 x h) else evicted 2 h (π .placeNew x (π .trim (h .dir)))
@@ -49,15 +62,21 @@ module _ (π : Policy) (x : ℕ) (h : Hand) where
   pub missed-new : has x (h .dir .b1) ≡ false → has x (h .dir .b2) ≡ false → missed π x h ≡ evicted 2 h (π .placeNew x (π .trim (h .dir)))
   missed-new f g = missed-elsewhere f ∙ ap elsewhere g
 
+  pub missed-by-cases : (P : Served → Type 0)
+      → (has x (h .dir .b1) ≡ true → P (evicted 3 h (π .placeB1 x h)))
+      → (has x (h .dir .b1) ≡ false → has x (h .dir .b2) ≡ true → P (evicted 4 h (π .placeB2 x h)))
+      → (has x (h .dir .b1) ≡ false → has x (h .dir .b2) ≡ false → P (evicted 2 h (π .placeNew x (π .trim (h .dir)))))
+      → P (missed π x h)
+  missed-by-cases P in-B1 in-B2 new = go (has x (h .dir .b1)) (has x (h .dir .b2)) refl refl
+    where
+      go : (b1 b2 : Bool) → has x (h .dir .b1) ≡ b1 → has x (h .dir .b2) ≡ b2 → P (missed π x h)
+      go true b2 e f = subst P (sym (missed-B1 e)) (in-B1 e)
+      go false true e f = subst P (sym (missed-B2 e f)) (in-B2 e f)
+      go false false e f = subst P (sym (missed-new e f)) (new e f)
+
   -- The answer's moves are those of the evict part, wherever the page was.
   pub missed-moves : missed π x h .moves ≡ h .moves
-  unfolding missed
-  missed-moves = go (has x (h .dir .b1)) (has x (h .dir .b2))
-    where
-      go : (b1 b2 : Bool) → (if b1 then evicted 3 h (π .placeB1 x h) else elsewhere b2) .moves ≡ h .moves
-      go true b2 = refl
-      go false true = refl
-      go false false = refl
+  missed-moves = missed-by-cases (λ s. s .moves ≡ h .moves) (λ e. refl) (λ e f. refl) (λ e f. refl)
 
 -- The directory after a trace.
 abbrev pub after : List ℕ → Directory → Directory

@@ -104,9 +104,12 @@ placeB1 x h =
     let p = min (d .p + max unit (unit * h .nS / ∣ d .b1 ∣)) (unit * d .c) in
     toTail T1 (newLong x) (withList B1 (without x (d .b1)) (withP p d))
 
--- Lines 18 to 20.
-unfoldable pub placeB2 : ℕ → Hand → Directory
-placeB2 x h =
+-- Lines 18 and 19; line 20 raises q after the move.
+abbrev pub backFromB2 : ℕ → Hand → Directory
+backFromB2 x h =
     let d = h .dir in
     let p = d .p - max unit (unit * h .nL / ∣ d .b2 ∣) in
-    raise (h .nS) (toTail T1 (newLong x) (withList B2 (without x (d .b2)) (withP p d)))
+    toTail T1 (newLong x) (withList B2 (without x (d .b2)) (withP p d))
+
+unfoldable pub placeB2 : ℕ → Hand → Directory
+placeB2 x h = raise (h .nS) (backFromB2 x h)
