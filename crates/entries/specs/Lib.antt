@@ -1,2 +1,3 @@
--- What the leaves' contracts name beside the definitions of figures.
+-- What the contracts of the engine name beside the definitions of figures.
 pub mod Stretches
+pub mod Answers

@@ -4,10 +4,10 @@ ghost use mathlib.Core.Path.{_≡_};
 ghost use Prim.Native.Nat.{ℕ, _+_, _*_, _≤_, _<_};
 ghost use mathlib.Core.List.{List, _++_};
 ghost use lib.ListN.{length, take, drop};
-ghost use Rattle.figures.specs.Entry.{Entry, bits, long, total, differ};
+ghost use Rattle.figures.specs.Entry.{Entry, total, differ};
 ghost use Rattle.figures.specs.Words.{words};
 ghost use Rattle.figures.specs.Sound.{allAtMost, flagWords};
-ghost use Rattle.entries.specs.Stretches.{index};
+ghost use Rattle.entries.specs.Stretches.{index, ofFlag};
 
 // The place of the first of the n entries from word a on that is for page, or n.
 pub fn find(dir: &[u32], a: usize, n: usize, page: u32) -> usize
@@ -24,32 +24,18 @@ pub fn find(dir: &[u32], a: usize, n: usize, page: u32) -> usize
     n
 }
 
-// How many of the n entries from word a on have their reference bit set.
-pub fn count_set(dir: &[u32], a: usize, n: usize) -> u32
-    requires { ⌜ (a + 2 * n ≤ length (now dir)) × (length (now dir) ≤ 4104) ⌝ }
-    ensures { λ r. ⌜ (r ≤ n) × ((P R : List ℕ) (l : List Entry) → now (dir .entry) ≡ P ++ (words l ++ R) → length P ≡ a → length l ≡ n → r ≡ total bits l) ⌝ }
+// How many of the n entries from word a on have a flag: 1 is the reference bit, 2 the filter L.
+pub fn count(dir: &[u32], a: usize, n: usize, flag: u32) -> u32
+    requires { ⌜ (a + 2 * n ≤ length (now dir)) × (length (now dir) ≤ 4104) × (1 ≤ flag) × (flag ≤ 2) ⌝ }
+    ensures { λ r. ⌜ (r ≤ n) × ((P R : List ℕ) (l : List Entry) → now (dir .entry) ≡ P ++ (words l ++ R) → length P ≡ a → length l ≡ n → r ≡ total (ofFlag flag) l) ⌝ }
 {
-    let mut count = 0u32;
+    let mut sum = 0u32;
     let mut i = 0;
     while i < n {
-        count += dir[a + 2 * i + 1] % 2;
+        sum += dir[a + 2 * i + 1] / flag % 2;
         i += 1;
     }
-    count
-}
-
-// How many of the n entries from word a on have the filter L.
-pub fn count_long(dir: &[u32], a: usize, n: usize) -> u32
-    requires { ⌜ (a + 2 * n ≤ length (now dir)) × (length (now dir) ≤ 4104) ⌝ }
-    ensures { λ r. ⌜ (r ≤ n) × ((P R : List ℕ) (l : List Entry) → now (dir .entry) ≡ P ++ (words l ++ R) → length P ≡ a → length l ≡ n → r ≡ total long l) ⌝ }
-{
-    let mut count = 0u32;
-    let mut i = 0;
-    while i < n {
-        count += dir[a + 2 * i + 1] / 2 % 2;
-        i += 1;
-    }
-    count
+    sum
 }
 
 // Whether the flags of the first n entries are at most 3.

@@ -1,17 +1,24 @@
 -- What soundness says of a directory's value, in numbers that omega reads, and that the test says just that.
 -- Pages that differ are pages that count at most once.
 use mathlib.Core.Path.{_≡_}
-use mathlib.Core.Bool.{Bool, true, false}
+use mathlib.Core.Bool.{true}
 use Prim.Native.Nat.{ℕ, _+_, _*_, _≤_, _<_}
+use native.Mathlib.Omega.{arith}
 use lib.Dec.{eqb}
 use Rattle.figures.specs.Choice.{if_then_else_, ∣_∣}
 use Rattle.figures.specs.Entry.{Entry, bits, short, long, total}
 use Rattle.figures.specs.Directory.{Directory, unit, cached, remembered, inCache}
 use Rattle.figures.specs.Sound.{car, knownPolicy}
-use Rattle.figures.proofs.Lists.{is}
+use Rattle.figures.proofs.Lists.{is, one, length-counts}
 
 abbrev pub inHistory : (Entry → ℕ) → Directory → ℕ
 inHistory count d = total count (d .b1) + total count (d .b2)
+
+pub cached-counts : (d : Directory) → cached d ≡ inCache one d
+cached-counts d = omega (arith, length-counts (d .t1), length-counts (d .t2))
+
+pub remembered-counts : (d : Directory) → remembered d ≡ inHistory one d
+remembered-counts d = omega (arith, length-counts (d .b1), length-counts (d .b2))
 
 pub record CarFacts (d : Directory) : Type 0 where
   pub q-zero : d .q ≡ 0

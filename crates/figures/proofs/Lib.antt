@@ -8,7 +8,6 @@ pub mod Requests
 pub mod Soundness
 pub mod Turns
 pub mod Car
-pub mod CartTurns
 pub mod Cart
 pub mod Placing
 pub mod Reached

@@ -1,38 +1,60 @@
 -- What a list of entries counts for: at a tail, without a page, with a bit set, without its head.
 -- Each law is over any count, so that sizes, bits, filters and pages are counted by the same ones.
-use mathlib.Core.Path.{_≡_, refl, sym, ap, _∙_}
-use mathlib.Core.Bool.{Bool, true, false, true≢false, false≢true}
+use mathlib.Core.Path.{_≡_, refl, ap, _∙_}
+use mathlib.Core.Bool.{Bool, true, false, _||_, true≢false, false≢true}
 use mathlib.Core.List.{List, [], _∷_, _++_}
-use Prim.Native.Nat.{ℕ, zero, suc, _+_, _-_, _*_, _≤_, _<_}
+use Prim.Native.Nat.{ℕ, suc, _+_, _-_, _*_, _≤_}
 use native.Mathlib.Omega.{arith}
 use lib.ListN.{length-append}
 use lib.Dec.{eqb}
-use borrow.Author.Tests.{eqb-true, eqb-false, eq-eqb, ne-eqb}
+use borrow.Author.Tests.{eq-eqb}
 use Rattle.figures.specs.Choice.{if_then_else_, ∣_∣}
-use Rattle.figures.specs.Entry.{Entry, marked, total, has, mark, without, dropHead}
+use Rattle.figures.specs.Entry.{Entry, Filter, marked, total, has, mark, without, dropHead}
+
+-- What each outcome of a test gives holds of the choice by it; of a choice by two tests, likewise.
+pub by-test : {A : Type 0} (P : A → Type 0) (b : Bool) {x y : A} → (b ≡ true → P x) → (b ≡ false → P y) → P (if b then x else y)
+by-test P true p q = p refl
+by-test P false p q = q refl
+
+pub by-tests : {A : Type 0} (P : A → Type 0) (b c : Bool) {x y : A}
+    → (b ≡ true → P x) → (c ≡ true → P x) → (c ≡ false → P y) → P (if b || c then x else y)
+by-tests P true c p q r = p refl
+by-tests P false c p q r = by-test P c q r
+
+-- What holds of both holds of the choice.
+pub either : {A : Type 0} (P : A → Type 0) (b : Bool) {x y : A} → P x → P y → P (if b then x else y)
+either P b p q = by-test P b (λ test. p) (λ test. q)
+
+-- An entry by its parts: a law by clauses on the bit and the filter is one on any entry.
+abbrev pub entryOf : ℕ → Bool → Filter → Entry
+entryOf page bit filter = record { page = page; bit = bit; filter = filter }
 
 -- 1 where the entry is for page x.
 abbrev pub is : ℕ → Entry → ℕ
 is x e = if eqb (e .page) x then 1 else 0
 
--- A list with a head.
-pub record HasHead (l : List Entry) : Type 0 where
-  pub head : Entry
-  pub rest : List Entry
-  pub front : l ≡ head ∷ rest
-
-pub has-head : (l : List Entry) → 1 ≤ ∣ l ∣ → HasHead l
-has-head [] h = absurd (omega arith)
-has-head (e ∷ es) h = record { head = e; rest = es; front = refl }
-
-pub empty : (l : List Entry) → ∣ l ∣ ≡ 0 → l ≡ []
-empty [] h = refl
-empty (e ∷ es) h = absurd (omega arith)
-
 pub length-tail : (l : List Entry) (e : Entry) → ∣ l ++ (e ∷ []) ∣ ≡ ∣ l ∣ + 1
 length-tail l e = length-append l (e ∷ []) ∙ omega arith
 
--- any count
+-- A size is a count of ones.
+abbrev pub one : Entry → ℕ
+one e = 1
+
+pub length-counts : (l : List Entry) → ∣ l ∣ ≡ total one l
+length-counts [] = refl
+length-counts (e ∷ l) = let h = length-counts l in omega arith
+
+-- What the head counts for, 0 where there is none.
+abbrev pub atHead : (Entry → ℕ) → List Entry → ℕ
+atHead count [] = 0
+atHead count (e ∷ l) = count e
+
+pub head-of-tail : (count : Entry → ℕ) (l : List Entry) (e : Entry) → atHead count l ≡ 0 → count e ≡ 0
+    → atHead count (l ++ (e ∷ [])) ≡ 0
+head-of-tail count [] e h new = new
+head-of-tail count (x ∷ l) e h new = h
+
+-- Over any count.
 module _ (count : Entry → ℕ) where
   pub total-append : (a b : List Entry) → total count (a ++ b) ≡ total count a + total count b
   total-append [] b = omega arith
@@ -51,30 +73,22 @@ module _ (count : Entry → ℕ) where
 
   pub total-without : (x : ℕ) (l : List Entry) → total count (without x l) ≤ total count l
   total-without x [] = omega arith
-  total-without x (e ∷ l) = go (eqb (e .page) x) (total-without x l)
-    where
-      go : (b : Bool) → total count (without x l) ≤ total count l → total count (if b then l else e ∷ without x l) ≤ count e + total count l
-      go true h = omega arith
-      go false h = omega arith
+  total-without x (e ∷ l) =
+      let h = total-without x l in
+      either (λ w. total count w ≤ count e + total count l) (eqb (e .page) x) (omega arith) (omega arith)
 
   pub total-marked-same : ((e : Entry) → count (marked e) ≡ count e) → (x : ℕ) (l : List Entry) → total count (mark x l) ≡ total count l
   total-marked-same same x [] = refl
-  total-marked-same same x (e ∷ l) = go (eqb (e .page) x) (same e) (total-marked-same same x l)
-    where
-      go : (b : Bool) → count (marked e) ≡ count e → total count (mark x l) ≡ total count l
-          → total count (if b then marked e ∷ l else e ∷ mark x l) ≡ count e + total count l
-      go true s h = omega arith
-      go false s h = omega arith
+  total-marked-same same x (e ∷ l) =
+      let h = total-marked-same same x l in
+      either (λ m. total count m ≡ count e + total count l) (eqb (e .page) x) (omega (arith, same e)) (omega arith)
 
   pub total-marked-at-most : (more : ℕ) → ((e : Entry) → count (marked e) ≤ count e + more) → (x : ℕ) (l : List Entry)
       → total count (mark x l) ≤ total count l + more
   total-marked-at-most more most x [] = omega arith
-  total-marked-at-most more most x (e ∷ l) = go (eqb (e .page) x) (most e) (total-marked-at-most more most x l)
-    where
-      go : (b : Bool) → count (marked e) ≤ count e + more → total count (mark x l) ≤ total count l + more
-          → total count (if b then marked e ∷ l else e ∷ mark x l) ≤ count e + total count l + more
-      go true s h = omega arith
-      go false s h = omega arith
+  total-marked-at-most more most x (e ∷ l) =
+      let h = total-marked-at-most more most x l in
+      either (λ m. total count m ≤ count e + total count l + more) (eqb (e .page) x) (omega (arith, most e)) (omega arith)
 
 pub length-head-dropped : (l : List Entry) → ∣ dropHead l ∣ ≡ ∣ l ∣ - 1
 length-head-dropped [] = refl
@@ -82,13 +96,12 @@ length-head-dropped (e ∷ l) = omega arith
 
 pub length-marked : (x : ℕ) (l : List Entry) → ∣ mark x l ∣ ≡ ∣ l ∣
 length-marked x [] = refl
-length-marked x (e ∷ l) = go (eqb (e .page) x) (length-marked x l)
-  where
-    go : (b : Bool) → ∣ mark x l ∣ ≡ ∣ l ∣ → ∣ if b then marked e ∷ l else e ∷ mark x l ∣ ≡ suc ∣ l ∣
-    go true h = refl
-    go false h = ap suc h
+length-marked x (e ∷ l) = either (λ m. ∣ m ∣ ≡ suc ∣ l ∣) (eqb (e .page) x) refl (ap suc (length-marked x l))
 
--- page x, by its count
+pub length-without-at-most : (x : ℕ) (l : List Entry) → ∣ without x l ∣ ≤ ∣ l ∣
+length-without-at-most x l = omega (arith, total-without one x l, length-counts (without x l), length-counts l)
+
+-- Page x, by its count.
 module _ (x : ℕ) where
   pub has-counts : (l : List Entry) → has x l ≡ true → 1 ≤ total (is x) l
   has-counts [] h = absurd (false≢true h)
@@ -126,13 +139,9 @@ module _ (x : ℕ) where
   is-itself e h = ap (λ (b : Bool). if b then 1 else 0) (eq-eqb (e .page) x h)
 
   pub is-at-most-one : (e : Entry) → is x e ≤ 1
-  is-at-most-one e = go (eqb (e .page) x)
-    where
-      go : (b : Bool) → (if b then 1 else 0) ≤ 1
-      go true = omega arith
-      go false = omega arith
+  is-at-most-one e = either (λ n. n ≤ 1) (eqb (e .page) x) (omega arith) (omega arith)
 
-  -- a list that has x, without it
+  -- A list that has x, without it.
   pub length-without : (l : List Entry) → has x l ≡ true → ∣ l ∣ ≡ ∣ without x l ∣ + 1
   length-without [] h = absurd (false≢true h)
   length-without (e ∷ l) h = go (eqb (e .page) x) h (length-without l)

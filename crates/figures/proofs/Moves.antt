@@ -9,7 +9,7 @@ use lib.Dec.{eqb, ltb}
 use borrow.Author.Tests.{eqb-true}
 use Rattle.figures.specs.Choice.{if_then_else_, ∣_∣}
 use Rattle.figures.specs.Entry.{Entry, Filter, S, L, newShort, newLong, bits, longOf, total, dropHead}
-use Rattle.figures.specs.Directory.{Directory, B1, B2, withList, fresh, placeNew, cached, remembered, inCache}
+use Rattle.figures.specs.Directory.{Directory, fresh, placeNew, cached, remembered, inCache}
 use Rattle.figures.specs.Hand.{Hand}
 use Rattle.figures.specs.Sound.{car, cart, knownPolicy}
 use Rattle.figures.specs.Car as Car
@@ -18,7 +18,7 @@ use Rattle.figures.specs.Request.{Policy, carPolicy, cartPolicy, policyO
 use Rattle.figures.specs.Run.{Tally, zeroTally, noted, run, runFrom}
 use Rattle.figures.specs.Demands.{Sound, StillRequests, CarMovesAreBitsCleared, mostMoves, RequestMovesAtMost}
 use Rattle.figures.specs.Demands.{movesEach, owed, RunMovesAtMost, lastMoves, CarRequestAtMost, CartRequestAtMost, CarRunAtMost, CartRunAtMost}
-use Rattle.figures.proofs.Lists.{total-tail, total-at-most, total-marked-at-most}
+use Rattle.figures.proofs.Lists.{either, total-tail, total-at-most, total-marked-at-most}
 use Rattle.figures.proofs.Facts.{Shared, CarFacts, CartFacts, Facts}
 use Rattle.figures.proofs.Encoding.{reads}
 use Rattle.figures.proofs.Soundness.{facts}
@@ -45,19 +45,14 @@ moves-by π x d P none evicting =
 
 -- What set bits and L pages can owe at most.
 bits-at-most-one : (e : Entry) → bits e ≤ 1
-bits-at-most-one e = go (e .bit)
-  where
-    go : (b : Bool) → (if b then 1 else 0) ≤ 1
-    go true = omega arith
-    go false = omega arith
+bits-at-most-one e = either (λ n. n ≤ 1) (e .bit) (omega arith) (omega arith)
 
 cost-at-most-two : (e : Entry) → Cart.cost e ≤ 2
-cost-at-most-two e = go (e .bit) (e .filter)
+cost-at-most-two e = either (λ n. n ≤ 2) (e .bit) (omega arith) (filters (e .filter))
   where
-    go : (b : Bool) (f : Filter) → (if b then 2 else longOf f) ≤ 2
-    go true f = omega arith
-    go false S = omega arith
-    go false L = omega arith
+    filters : (f : Filter) → longOf f ≤ 2
+    filters S = omega arith
+    filters L = omega arith
 
 module _ (d : Directory) (shared : Shared d) (full : cached d ≡ d .c) where
   car-at-most : CarFacts d → Car.evict d .moves ≤ d .c + 1
@@ -131,13 +126,11 @@ pays π owes lands p x d evicting =
 
 car-trim-owes : (d : Directory) → inCache bits (Car.trim d) ≡ inCache bits d
 unfolding Car.trim
-car-trim-owes d = go (eqb (∣ d .t1 ∣ + ∣ d .b1 ∣) (d .c)) (eqb (cached d + remembered d) (2 * d .c))
+car-trim-owes d =
+    either Same (eqb (∣ d .t1 ∣ + ∣ d .b1 ∣) (d .c)) refl (either Same (eqb (cached d + remembered d) (2 * d .c)) refl refl)
   where
-    go : (a b : Bool)
-        → inCache bits (if a then withList B1 (dropHead (d .b1)) d else if b then withList B2 (dropHead (d .b2)) d else d) ≡ inCache bits d
-    go true b = refl
-    go false true = refl
-    go false false = refl
+    Same : Directory → Type 0
+    Same d′ = inCache bits d′ ≡ inCache bits d
 
 car-pays : Pays carPolicy (inCache bits) 0
 unfolding placeNew Car.placeB1 Car.placeB2
@@ -154,13 +147,11 @@ car-pays = record {
 
 cart-trim-owes : (d : Directory) → owing (Cart.trim d) ≡ owing d
 unfolding Cart.trim
-cart-trim-owes d = go (eqb (remembered d) (d .c + 1)) (ltb (d .q) ∣ d .b1 ∣ || eqb ∣ d .b2 ∣ 0)
+cart-trim-owes d =
+    either Same (eqb (remembered d) (d .c + 1)) (either Same (ltb (d .q) ∣ d .b1 ∣ || eqb ∣ d .b2 ∣ 0) refl refl) refl
   where
-    go : (a b : Bool)
-        → owing (if a then (if b then withList B1 (dropHead (d .b1)) d else withList B2 (dropHead (d .b2)) d) else d) ≡ owing d
-    go true true = refl
-    go true false = refl
-    go false b = refl
+    Same : Directory → Type 0
+    Same d′ = owing d′ ≡ owing d
 
 long-lands : (x : ℕ) (d : Directory) → total Cart.cost (d .t1 ++ (newLong x ∷ [])) + 2 * total bits (d .t2) ≤ owing d + 1
 long-lands x d = omega (arith, total-tail Cart.cost (d .t1) (newLong x))

@@ -14,7 +14,7 @@ use Rattle.figures.specs.Hand.{Hand}
 use Rattle.figures.specs.Car as Car
 use Rattle.figures.specs.Cart as Cart
 use Rattle.figures.specs.Request.{hit}
-use Rattle.figures.proofs.Lists.{is, has-counts, lacks-counts, counts-has, count-without, is-at-most-one}
+use Rattle.figures.proofs.Lists.{either, is, has-counts, lacks-counts, counts-has, count-without, is-at-most-one}
 use Rattle.figures.proofs.Lists.{length-tail, total-tail, total-at-most, length-marked, total-marked-same, length-without, total-without}
 use Rattle.figures.proofs.Facts.{inHistory, Shared, Opened, Trimmed}
 
@@ -51,11 +51,7 @@ module _ (x : ℕ) (d : Directory) where
 -- A hit marks an entry of T1, or else of T2: what holds of both outcomes holds of it.
 pub hit-either : (P : Directory → Type 0) (x : ℕ) (d : Directory)
     → P (withList T1 (mark x (d .t1)) d) → P (withList T2 (mark x (d .t2)) d) → P (hit x d)
-hit-either P x d in-T1 in-T2 = go (has x (d .t1))
-  where
-    go : (b : Bool) → P (if b then withList T1 (mark x (d .t1)) d else withList T2 (mark x (d .t2)) d)
-    go true = in-T1
-    go false = in-T2
+hit-either P x d in-T1 in-T2 = either P (has x (d .t1)) in-T1 in-T2
 
 -- A hit: T1 and T2 hold the same pages afterwards.
 module _ (d : Directory) (shared : Shared d) where
@@ -264,11 +260,8 @@ module _ (x : ℕ) (d d′ : Directory) where
 
 -- raise changes q alone: what holds whatever q is holds of it.
 pub raised : (P : Directory → Type 0) (nS : ℕ) (d : Directory) → ((q : ℕ) → P (withQ q d)) → P (Cart.raise nS d)
-raised P nS d any = go (leb (d .c) (∣ d .t2 ∣ + ∣ d .b2 ∣ + ∣ d .t1 ∣ - nS))
-  where
-    go : (b : Bool) → P (if b then withQ (min (d .q + 1) (2 * d .c - ∣ d .t1 ∣)) d else d)
-    go true = any (min (d .q + 1) (2 * d .c - ∣ d .t1 ∣))
-    go false = any (d .q)
+raised P nS d any =
+    either P (leb (d .c) (∣ d .t2 ∣ + ∣ d .b2 ∣ + ∣ d .t1 ∣ - nS)) (any (min (d .q + 1) (2 * d .c - ∣ d .t1 ∣))) (any (d .q))
 
 -- What a page that comes back leaves: the cache has it, and both policies' common rules hold.
 pub record CameBack (x : ℕ) (d d′ : Directory) : Type 0 where

@@ -1,34 +1,45 @@
--- A repeat whose looks lower a number ends by itself: its budget never decides.
--- What every look keeps holds at the last look too.
-use mathlib.Core.Path.{_≡_, refl, sym, ap, _∙_, subst}
-use Prim.Native.Nat.{ℕ, zero, suc, _+_, _≤_, _<_}
+-- A repeat whose looks lower a number ends by itself, so that its budget never decides, and ends at one hand only.
+-- What every look keeps, and what the last one makes of it, is said of each look by itself.
+use mathlib.Core.Path.{_≡_, refl}
+use Prim.Native.Nat.{ℕ, zero, suc, _<_}
 use native.Mathlib.Omega.{arith}
 use Rattle.figures.specs.Hand.{Hand, Look, again, stop, none, Ends, last, next, onward, repeat}
 
--- From a a look ends the repeat, or leads to a hand that is as good and has less left to do.
-pub data Looks (look : Hand → Look) (Good : Hand → Type 0) (left : Hand → ℕ) (a : Hand) : Type 0 where
-  ends : (z : Hand) → look a ≡ stop z → Looks look Good left a
-  goes : (b : Hand) → look a ≡ again b → Good b → left b < left a → Looks look Good left a
+-- From a hand to one that is as good and has less left to do.
+pub record Nearer (Good : Hand → Type 0) (left : Hand → ℕ) (a b : Hand) : Type 0 where
+  pub good : Good b
+  pub less : left b < left a
 
-module _ (look : Hand → Look) (Good : Hand → Type 0) (left : Hand → ℕ) (looks : (a : Hand) → Good a → Looks look Good left a) where
-  step : (k : ℕ) → ((a : Hand) → Good a → left a < k → Ends look a (repeat look k a))
-      → (a : Hand) → left a < suc k → Looks look Good left a → Ends look a (repeat look (suc k) a)
+-- What a look from a comes to: a nearer hand, or a stop, where End holds; and never to a head that is not there.
+abbrev pub Leads : (Hand → Type 0) → (Hand → Type 0) → (Hand → ℕ) → Hand → Look → Type 0
+Leads Good End left a (again b) = Nearer Good left a b
+Leads Good End left a (stop z) = End z
+Leads Good End left a none = ⊥
+
+-- From a the repeat ends at z, where End holds.
+pub record Ended (look : Hand → Look) (End : Hand → Type 0) (a z : Hand) : Type 0 where
+  pub by-itself : Ends look a z
+  pub holds : End z
+
+module _ (look : Hand → Look) (Good End : Hand → Type 0) (left : Hand → ℕ)
+    (leads : (a : Hand) → Good a → Leads Good End left a (look a)) where
+  step : (k : ℕ) → ((a : Hand) → Good a → left a < k → Ended look End a (repeat look k a))
+      → (a : Hand) → left a < suc k → (l : Look) → look a ≡ l → Leads Good End left a l
+      → Ended look End a (onward l a (repeat look k))
+  step k ih a h (again b) is nearer =
+      let r = ih b (nearer .good) (omega arith) in
+      record { by-itself = next is (r .by-itself); holds = r .holds }
+  step k ih a h (stop z) is holds = record { by-itself = last is; holds = holds }
+  step k ih a h none is never = absurd never
+
+  pub repeat-ends : (k : ℕ) (a : Hand) → Good a → left a < k → Ended look End a (repeat look k a)
   unfolding repeat
-  step k ih a h (ends z e) = last (e ∙ ap stop (sym (ap (λ (l : Look). onward l a (repeat look k)) e)))
-  step k ih a h (goes b e g less) =
-      subst (Ends look a) (sym (ap (λ (l : Look). onward l a (repeat look k)) e)) (next e (ih b g (omega arith)))
+  repeat-ends zero a good h = absurd (omega arith)
+  repeat-ends (suc k) a good h = step k (repeat-ends k) a h (look a) refl (leads a good)
 
-  pub repeat-ends : (k : ℕ) (a : Hand) → Good a → left a < k → Ends look a (repeat look k a)
-  repeat-ends zero a g h = absurd (omega arith)
-  repeat-ends (suc k) a g h = step k (repeat-ends k) a h (looks a g)
-
--- The last look of a repeat, and what holds of the hand that it is made with.
-pub record LastLook (look : Hand → Look) (Good : Hand → Type 0) (z : Hand) : Type 0 where
-  pub at : Hand
-  pub good : Good at
-  pub stops : look at ≡ stop z
-
-module _ (look : Hand → Look) (Good : Hand → Type 0) (keeps : (a b : Hand) → Good a → look a ≡ again b → Good b) where
-  pub last-look : {a z : Hand} → Ends look a z → Good a → LastLook look Good z
-  last-look {a} (last e) g = record { at = a; good = g; stops = e }
-  last-look {a} (next {b = b} e r) g = last-look r (keeps a b g e)
+-- A look has one outcome, so two ways through the repeat are the same.
+pub ends-once : {look : Hand → Look} {a y z : Hand} → Ends look a y → Ends look a z → y ≡ z
+ends-once (last p) (last q) = cc
+ends-once (last p) (next q s) = cc
+ends-once (next p r) (last q) = cc
+ends-once (next {b = b} p r) (next {b = c} q s) = let same : c ≡ b = cc in ends-once r (rw same at s)

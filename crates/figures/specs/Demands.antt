@@ -53,7 +53,7 @@ abbrev pub WhenFull : (Directory → Type 0) → Type 0
 WhenFull P = (d : Directory) → Sound d → cached d ≡ d .c → P d
 
 -- "No budget may decide where the defined evict part ends: .. from every sound directory the published stop comes first."
--- The repeat that knows no budget ends where the definition does, and every head that it asks for is there. [Car, Cart]
+-- The repeat that knows no budget ends where the definition does, and every head that it asks for is there. [Stops]
 abbrev pub CarStops : Directory → Type 0
 CarStops d = Ends Car.choose (begin 0 0 d) (Car.evict d)
 
@@ -66,7 +66,7 @@ abbrev pub PublishedStopComesFirst : Type 0
 PublishedStopComesFirst = WhenFull (λ d. if eqb (d .policy) car then CarStops d else CartStops d)
 
 -- One page goes from T1 or T2, of which the chosen one is not empty, to a history, and its reference bit is clear there;
--- "bits set before equal bits set after plus bits cleared" (request 10 of 02). [Car, Cart]
+-- "bits set before equal bits set after plus bits cleared" (request 10 of 02). [Stops]
 pub record Evicts (d : Directory) (h : Hand) : Type 0 where
   pub from-T1-or-T2 : (1 ≤ h .list) × (h .list ≤ 2)
   pub one-less : cached (h .dir) + 1 ≡ cached d
@@ -77,12 +77,14 @@ pub record Evicts (d : Directory) (h : Hand) : Type 0 where
 abbrev pub EvictsOne : Type 0
 EvictsOne = WhenFull (λ d. Evicts d (policyOf (d .policy) .evict d))
 
--- "n_S and n_L count the S and L pages in T1 and T2", also as Figure 3 has kept them when the evict part is over. [Cart]
+-- "n_S and n_L count the S and L pages in T1 and T2", also as Figure 3 has kept them when the evict part is over. [Stops]
 abbrev pub CountsKept : Type 0
 CountsKept =
-    WhenFull (λ d. d .policy ≡ cart → (Cart.evict d .nS ≡ inCache short (Cart.evict d .dir)) × (Cart.evict d .nL ≡ inCache long (Cart.evict d .dir)))
+    WhenFull (λ d.
+      let h = Cart.evict d in
+      d .policy ≡ cart → (h .nS ≡ inCache short (h .dir)) × (h .nL ≡ inCache long (h .dir)))
 
--- A history that trim takes the head of has one. [Car, Cart]
+-- A history that trim takes the head of has one. [Stops]
 abbrev pub CarTrimHasHead : Directory → Type 0
 CarTrimHasHead d =
     (∣ d .t1 ∣ + ∣ d .b1 ∣ ≡ d .c → 1 ≤ ∣ d .b1 ∣)
@@ -93,18 +95,22 @@ CartTrimHasHead d = remembered d ≡ d .c + 1 → ∣ d .b2 ∣ ≡ 0 → 1 ≤ 
 
 abbrev pub TrimHasHead : Type 0
 TrimHasHead =
-    WhenFull (λ d. if eqb (d .policy) car then CarTrimHasHead (Car.evict d .dir) else CartTrimHasHead (Cart.evict d .dir))
+    WhenFull (λ d.
+      if eqb (d .policy) car then CarTrimHasHead (Car.evict d .dir) else CartTrimHasHead (Cart.evict d .dir))
 
 -- HAND MOVES
 
 -- "For kinds 0 and 1 the other three are 0." [Moves]
 abbrev pub StillRequests : Type 0
-StillRequests = (x : ℕ) (d : Directory) → request x d .kind ≤ 1 → (request x d .page ≡ 0) × (request x d .list ≡ 0) × (request x d .moves ≡ 0)
+StillRequests =
+    (x : ℕ) (d : Directory) → request x d .kind ≤ 1
+    → (request x d .page ≡ 0) × (request x d .list ≡ 0) × (request x d .moves ≡ 0)
 
 -- "for an evicting CAR request one more than the reference bits cleared" [Moves]
 abbrev pub CarMovesAreBitsCleared : Type 0
 CarMovesAreBitsCleared =
-    (x : ℕ) (d : Directory) → Sound d → d .policy ≡ car → 2 ≤ request x d .kind → request x d .moves ≡ request x d .cleared + 1
+    (x : ℕ) (d : Directory) → Sound d → d .policy ≡ car → 2 ≤ request x d .kind
+    → request x d .moves ≡ request x d .cleared + 1
 
 -- "no CAR request needs more than c + 1 hand moves, no CART request more than 2c + 1": from every sound directory. [Moves]
 abbrev pub mostMoves : Directory → ℕ

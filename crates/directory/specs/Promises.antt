@@ -1,0 +1,30 @@
+-- The promises of the public operations: the answer and every lent word afterwards, for every input, refused ones too.
+-- Each is fixed by the total function of figures' Refusals; proofs/Determined shows that two outcomes it allows are equal.
+use mathlib.Core.Path.{_≡_}
+use mathlib.Core.List.{List}
+use Prim.Native.Nat.{ℕ, _*_, _≤_}
+use Rattle.figures.specs.Choice.{∣_∣}
+use Rattle.figures.specs.Words.{decode}
+use Rattle.figures.specs.Refusals.{onFresh, onCheck, onRequest}
+use Rattle.figures.specs.Demands.{mostMoves}
+use Rattle.directory.specs.declared.Answer.{Answer}
+
+-- fresh(policy, c, dir) -> number
+pub record Freshened (policy c : ℕ) (w : List ℕ) (number : ℕ) (w′ : List ℕ) : Type 0 where
+  pub number-is : number ≡ onFresh policy c w .number
+  pub words-are : w′ ≡ onFresh policy c w .words
+
+-- check(dir) -> number; dir is lent to be read alone
+pub record Checked (w : List ℕ) (number : ℕ) : Type 0 where
+  pub number-is : number ≡ onCheck w .number
+
+-- request(dir, page) -> Answer
+pub record Requested (w : List ℕ) (page : ℕ) (r : Answer) (w′ : List ℕ) : Type 0 where
+  pub number-is : r .number ≡ onRequest w page .number
+  pub kind-is : r .kind ≡ onRequest w page .kind
+  pub page-is : r .page ≡ onRequest w page .page
+  pub list-is : r .list ≡ onRequest w page .list
+  pub moves-is : r .moves ≡ onRequest w page .moves
+  pub words-are : w′ ≡ onRequest w page .words
+  -- c + 1 for CAR, 2c + 1 for CART
+  pub moves-at-most : r .moves ≤ mostMoves (decode w)

@@ -1,0 +1,144 @@
+// The public operations on a directory in lent words. Each is total: whatever is lent gets an answer, a refusal its number,
+// and a refused call changes no lent word. What each promises is in specs/Promises.
+ghost use mathlib.Core.Path.{_≡_};
+ghost use mathlib.Core.Bool.{Bool, true};
+ghost use lib.ListN.{length, replicate};
+ghost use Rattle.figures.specs.Words.{decode};
+ghost use Rattle.figures.specs.Sound.{sound, knownPolicy, knownSize};
+ghost use Rattle.figures.specs.Request.{request};
+ghost use Rattle.entries.specs.Answers.{Tells};
+ghost use Rattle.directory.specs.Promises.{Freshened, Checked, Requested};
+
+mod soundness;
+
+use entries::lists;
+use entries::search;
+
+// A request's answer; zeros beside the number of a refusal.
+pub struct Answer {
+    pub number: u32,
+    pub kind: u32,
+    pub page: u32,
+    pub list: u32,
+    pub moves: u32,
+}
+
+fn known_policy(policy: u32) -> bool
+    ensures { λ r. ⌜ r ≡ knownPolicy policy ⌝ }
+{
+    policy == 1 || policy == 2
+}
+
+fn known_size(c: u32) -> bool
+    ensures { λ r. ⌜ r ≡ knownSize c ⌝ }
+{
+    1 <= c && c <= 1024
+}
+
+fn clear(s: &mut [u32])
+    ensures { λ _. ⌜ now (s .exit) ≡ replicate (length (now (s .entry))) 0 ⌝ }
+{
+    let mut i = 0;
+    while i < s.len() {
+        s[i] = 0;
+        i += 1;
+    }
+}
+
+// A fresh directory: refusals 1, 2, 3.
+pub fn fresh(policy: u32, c: u32, dir: &mut [u32]) -> u32
+    ensures { λ r. ⌜ Freshened policy c (now (dir .entry)) r (now (dir .exit)) ⌝ }
+{
+    if !known_policy(policy) {
+        return 1;
+    }
+    if !known_size(c) {
+        return 2;
+    }
+    if dir.len() != 8 + 4 * lists::wide(c) {
+        return 3;
+    }
+    clear(dir);
+    dir[0] = policy;
+    dir[1] = c;
+    0
+}
+
+// The soundness check: under 8 words 3, then 1, 2, length 3, then 4.
+pub fn check(dir: &[u32]) -> u32
+    ensures { λ r. ⌜ Checked (now (dir .entry)) r ⌝ }
+{
+    if dir.len() < 8 {
+        return 3;
+    }
+    if !known_policy(dir[0]) {
+        return 1;
+    }
+    if !known_size(dir[1]) {
+        return 2;
+    }
+    if dir.len() != 8 + 4 * lists::wide(dir[1]) {
+        return 3;
+    }
+    if !soundness::is_sound(dir) {
+        return 4;
+    }
+    0
+}
+
+// One request of a sound directory, which it leaves sound: the step under requests and runs.
+fn serve(dir: &mut [u32], page: u32) -> entries::Served
+    requires { ⌜ sound (now dir) ≡ true ⌝ }
+    ensures { λ r. ⌜ Tells (request page (decode (now (dir .entry)))) (r .kind) (r .page) (r .list) (r .moves) (now (dir .exit)) × (sound (now (dir .exit)) ≡ true) ⌝ }
+{
+    let n1 = lists::wide(dir[4]);
+    let n2 = lists::wide(dir[5]);
+    let at = search::find(dir, 8, n1 + n2, page);
+    if at < n1 + n2 {
+        lists::mark(dir, at);
+        return entries::Served {
+            kind: 0,
+            page: 0,
+            list: 0,
+            moves: 0,
+        };
+    }
+    if n1 + n2 < lists::wide(dir[1]) {
+        lists::place_new(dir, page);
+        return entries::Served {
+            kind: 1,
+            page: 0,
+            list: 0,
+            moves: 0,
+        };
+    }
+    if dir[0] == 1 {
+        car::miss(dir, page)
+    } else {
+        cart::miss(dir, page)
+    }
+}
+
+// One request: refusals as the soundness check.
+pub fn request(dir: &mut [u32], page: u32) -> Answer
+    ensures { λ r. ⌜ Requested (now (dir .entry)) page r (now (dir .exit)) ⌝ }
+{
+    let number = check(dir);
+    if number != 0 {
+        return Answer {
+            number,
+            kind: 0,
+            page: 0,
+            list: 0,
+            moves: 0,
+        };
+    }
+    let served = serve(dir, page);
+    Answer {
+        number: 0,
+        kind: served.kind,
+        page: served.page,
+        list: served.list,
+        moves: served.moves,
+    }
+}

@@ -1,0 +1,108 @@
+// "A directory is sound when", in words whose number, policy and size are in order.
+// Sizes come first: what is read after them is where it should be.
+ghost use mathlib.Core.Path.{_≡_};
+ghost use mathlib.Core.Bool.{Bool};
+ghost use Rattle.figures.specs.Sound.{carSound, cartSound, sound};
+ghost use Rattle.directory.specs.Orderly.{Orderly, sizesFit, Held, entriesSound};
+use entries::lists;
+use entries::search;
+
+// p and the four lengths, which may be any numbers.
+fn sizes_fit(dir: &[u32]) -> bool
+    requires { ⌜ Orderly (now dir) ⌝ }
+    ensures { λ r. ⌜ r ≡ sizesFit (now (dir .entry)) ⌝ }
+{
+    let c = lists::wide(dir[1]);
+    let cached = lists::wide(dir[4]) + lists::wide(dir[5]);
+    let remembered = lists::wide(dir[6]) + lists::wide(dir[7]);
+    if entries::UNIT * dir[1] < dir[2] {
+        return false;
+    }
+    if c < cached {
+        return false;
+    }
+    if c < remembered {
+        return false;
+    }
+    if cached < c {
+        return remembered == 0;
+    }
+    true
+}
+
+// CAR's own rules.
+fn car_sound(dir: &[u32]) -> bool
+    requires { ⌜ Held (now dir) ⌝ }
+    ensures { λ r. ⌜ r ≡ carSound (now (dir .entry)) ⌝ }
+{
+    let n1 = lists::wide(dir[4]);
+    let k1 = lists::wide(dir[6]);
+    let all = n1 + lists::wide(dir[5]) + (k1 + lists::wide(dir[7]));
+    if dir[3] != 0 {
+        return false;
+    }
+    if search::count(dir, 8, all, 2) != 0 {
+        return false;
+    }
+    n1 + k1 <= lists::wide(dir[1])
+}
+
+// CART's own rules.
+fn cart_sound(dir: &[u32]) -> bool
+    requires { ⌜ Held (now dir) ⌝ }
+    ensures { λ r. ⌜ r ≡ cartSound (now (dir .entry)) ⌝ }
+{
+    let n1 = lists::wide(dir[4]);
+    let n2 = lists::wide(dir[5]);
+    let k1 = lists::wide(dir[6]);
+    let k2 = lists::wide(dir[7]);
+    if 2 * dir[1] < dir[3] {
+        return false;
+    }
+    if search::count(dir, 8 + 2 * n1, n2, 2) != dir[5] {
+        return false;
+    }
+    if search::count(dir, 8 + 2 * (n1 + n2 + k1), k2, 2) != dir[7] {
+        return false;
+    }
+    search::count(dir, 8 + 2 * (n1 + n2), k1, 2) == 0
+}
+
+// What the entries say, once flags are known to be flags.
+fn entries_sound(dir: &[u32]) -> bool
+    requires { ⌜ Held (now dir) ⌝ }
+    ensures { λ r. ⌜ r ≡ entriesSound (now (dir .entry)) ⌝ }
+{
+    let cached = lists::wide(dir[4]) + lists::wide(dir[5]);
+    let remembered = lists::wide(dir[6]) + lists::wide(dir[7]);
+    if !search::pages_differ(dir, cached + remembered) {
+        return false;
+    }
+    if search::count(dir, 8 + 2 * cached, remembered, 1) != 0 {
+        return false;
+    }
+    if dir[0] == 1 {
+        car_sound(dir)
+    } else {
+        cart_sound(dir)
+    }
+}
+
+// All of it.
+pub fn is_sound(dir: &[u32]) -> bool
+    requires { ⌜ Orderly (now dir) ⌝ }
+    ensures { λ r. ⌜ r ≡ sound (now (dir .entry)) ⌝ }
+{
+    if !sizes_fit(dir) {
+        return false;
+    }
+    let cached = lists::wide(dir[4]) + lists::wide(dir[5]);
+    let all = cached + (lists::wide(dir[6]) + lists::wide(dir[7]));
+    if !search::flags_known(dir, all) {
+        return false;
+    }
+    if !search::all_zero(dir, 8 + 2 * all) {
+        return false;
+    }
+    entries_sound(dir)
+}

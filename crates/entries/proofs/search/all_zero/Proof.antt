@@ -1,0 +1,64 @@
+-- The answer is whether the words from a on are zero: those before word i are, so all are if those from i on are.
+use mathlib.Core.Path.{_≡_, refl, sym, _∙_}
+use Prim.Native.Nat.{_≤_, _-_}
+use native.Mathlib.Omega.{arith}
+use lib.ListN.{length, drop}
+use Rattle.figures.specs.Sound.{allAtMost}
+use Rattle.entries.proofs.Bounds.{at-most-not, at-most-later, at-most-end}
+use borrow.Author.Needs.{needs}
+use Rattle.entries.proofs.search.all_zero.Statement.{statement}
+use Rattle.entries.proofs.search.all_zero.Tie as tie
+
+abbrev Inv-loop : tie.InvT-loop
+Inv-loop dir a i₀ i = (i ≤ length dir) × (allAtMost 0 (drop a dir) ≡ allAtMost 0 (drop i dir))
+
+abbrev μ-loop : tie.MeasureT-loop
+μ-loop dir a i₀ i = length dir - i
+
+loop-holds : tie.Need-loop-holds Inv-loop μ-loop
+loop-holds c = (omega arith, refl)
+
+mul-if1 : tie.Need-mul-if1 Inv-loop μ-loop
+mul-if1 c = search needs
+
+shared-slice-read-if1 : tie.Need-shared-slice-read-if1 Inv-loop μ-loop
+shared-slice-read-if1 c = search needs
+
+returns : tie.Need-returns Inv-loop μ-loop
+returns c =
+    let v = c .before .before .before .loop in
+    let w = c .before .before .before .before .args .dir .now in
+    sym (v .inv .1 ∙ at-most-not 0 w (v .i) (omega arith) (omega (arith, c .if1 .taken)))
+
+add-i : tie.Need-add-i Inv-loop μ-loop
+add-i c = search needs
+
+loop-less : tie.Need-loop-less Inv-loop μ-loop
+loop-less c = search needs
+
+loop-again : tie.Need-loop-again Inv-loop μ-loop
+loop-again c =
+    let v = c .before .before .before .loop in
+    let w = c .before .before .before .before .args .dir .now in
+    (omega arith, v .inv .1 ∙ at-most-later 0 w (v .i) (omega arith) (omega arith))
+
+returns-2 : tie.Need-returns-2 Inv-loop μ-loop
+returns-2 c =
+    let v = c .before .loop in
+    let w = c .before .before .args .dir .now in
+    sym (v .inv .1 ∙ at-most-end 0 w (v .i) (omega arith))
+
+pub all-zero-spec : {M : Type 1} → statement M
+all-zero-spec =
+    tie.close
+    (tie.spec
+    Inv-loop
+    μ-loop
+    loop-holds
+    mul-if1
+    shared-slice-read-if1
+    returns
+    add-i
+    loop-less
+    loop-again
+    returns-2)

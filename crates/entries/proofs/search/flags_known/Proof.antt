@@ -1,0 +1,81 @@
+-- The answer is whether all flags are at most 3: those before entry i are, so all are if those from i on are.
+use mathlib.Core.Path.{_≡_, refl, sym, _∙_}
+use Prim.Native.Nat.{_≤_, _-_}
+use native.Mathlib.Omega.{arith}
+use lib.ListN.{drop}
+use Rattle.figures.specs.Sound.{allAtMost}
+use Rattle.entries.proofs.Bounds.{at-most-not, at-most-later, at-most-end, flagsOf, length-flags, flag-at}
+use borrow.Author.Needs.{needs}
+use Rattle.entries.proofs.search.flags_known.Statement.{statement}
+use Rattle.entries.proofs.search.flags_known.Tie as tie
+
+abbrev Inv-loop : tie.InvT-loop
+Inv-loop dir n i₀ i = (i ≤ n) × (allAtMost 3 (flagsOf n dir) ≡ allAtMost 3 (drop i (flagsOf n dir)))
+
+abbrev μ-loop : tie.MeasureT-loop
+μ-loop dir n i₀ i = n - i
+
+loop-holds : tie.Need-loop-holds Inv-loop μ-loop
+loop-holds c = (omega arith, refl)
+
+mul-if1 : tie.Need-mul-if1 Inv-loop μ-loop
+mul-if1 c = search needs
+
+add-if1 : tie.Need-add-if1 Inv-loop μ-loop
+add-if1 c = search needs
+
+add-if1-2 : tie.Need-add-if1-2 Inv-loop μ-loop
+add-if1-2 c = search needs
+
+mul-if1-2 : tie.Need-mul-if1-2 Inv-loop μ-loop
+mul-if1-2 c = search needs
+
+shared-slice-read-if1 : tie.Need-shared-slice-read-if1 Inv-loop μ-loop
+shared-slice-read-if1 c = search needs
+
+returns : tie.Need-returns Inv-loop μ-loop
+returns c =
+    let v = c .before .before .before .loop in
+    let x = c .before .before .before .before .args in
+    let many = length-flags (x .n) (x .dir .now) (omega arith) in
+    let word = flag-at (x .n) (x .dir .now) (v .i) (omega arith) in
+    sym (v .inv .1 ∙ at-most-not 3 (flagsOf (x .n) (x .dir .now)) (v .i) (omega arith) (omega arith))
+
+add-i : tie.Need-add-i Inv-loop μ-loop
+add-i c = search needs
+
+loop-less : tie.Need-loop-less Inv-loop μ-loop
+loop-less c = search needs
+
+loop-again : tie.Need-loop-again Inv-loop μ-loop
+loop-again c =
+    let v = c .before .before .before .loop in
+    let x = c .before .before .before .before .args in
+    let many = length-flags (x .n) (x .dir .now) (omega arith) in
+    let word = flag-at (x .n) (x .dir .now) (v .i) (omega arith) in
+    (omega arith, v .inv .1 ∙ at-most-later 3 (flagsOf (x .n) (x .dir .now)) (v .i) (omega arith) (omega arith))
+
+returns-2 : tie.Need-returns-2 Inv-loop μ-loop
+returns-2 c =
+    let v = c .before .loop in
+    let x = c .before .before .args in
+    let many = length-flags (x .n) (x .dir .now) (omega arith) in
+    sym (v .inv .1 ∙ at-most-end 3 (flagsOf (x .n) (x .dir .now)) (v .i) (omega arith))
+
+pub flags-known-spec : {M : Type 1} → statement M
+flags-known-spec =
+    tie.close
+    (tie.spec
+    Inv-loop
+    μ-loop
+    loop-holds
+    mul-if1
+    add-if1
+    add-if1-2
+    mul-if1-2
+    shared-slice-read-if1
+    returns
+    add-i
+    loop-less
+    loop-again
+    returns-2)

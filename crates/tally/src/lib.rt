@@ -1,0 +1,47 @@
+// The running tally of a run: a by-value core, and a thin function that a tally is lent to.
+// `counted` lends a tally of its own, so that a loop over it needs no walk by hand.
+ghost use mathlib.Core.Path.{_≡_};
+ghost use Prim.Native.Nat.{_≤_};
+ghost use Rattle.tally.specs.Note.{notedOf, Small};
+
+pub struct Tally {
+    pub requests: u32,
+    pub hits: u32,
+    pub misses: u32,
+    pub evictions: u32,
+    pub moves: u32,
+}
+
+// The tally brought up to date by an answer of this kind and so many moves.
+fn noted(t: Tally, kind: u32, moves: u32) -> Tally
+    requires { ⌜ Small t × (moves ≤ 2049) ⌝ }
+    ensures { λ r. ⌜ r ≡ notedOf t kind moves ⌝ }
+{
+    let hit = if kind == 0 { 1 } else { 0 };
+    let evicted = if kind < 2 { 0 } else { 1 };
+    Tally {
+        requests: t.requests + 1,
+        hits: t.hits + hit,
+        misses: t.misses + (1 - hit),
+        evictions: t.evictions + evicted,
+        moves: t.moves + moves,
+    }
+}
+
+// The same of a tally that is lent.
+fn note(t: &mut Tally, kind: u32, moves: u32)
+    requires { ⌜ Small (now t) × (moves ≤ 2049) ⌝ }
+    ensures { λ _. ⌜ now (t .exit) ≡ notedOf (now (t .entry)) kind moves ⌝ }
+{
+    *t = noted(*t, kind, moves);
+}
+
+// The same by value, through the lent tally.
+pub fn counted(t: Tally, kind: u32, moves: u32) -> Tally
+    requires { ⌜ Small t × (moves ≤ 2049) ⌝ }
+    ensures { λ r. ⌜ r ≡ notedOf t kind moves ⌝ }
+{
+    let mut own = t;
+    note(&mut own, kind, moves);
+    own
+}
