@@ -6,17 +6,18 @@ use mathlib.Core.List.{List, [], _∷_, _++_}
 use Prim.Native.Nat.{ℕ, _+_, _*_, _≤_}
 use lib.ListN.{getD}
 use lib.Dec.{leb, ltb, eqb}
-use Rattle.figures.specs.Choice.{if_then_else_}
+use Rattle.figures.specs.Choice.{if_then_else_, ∣_∣}
 use Rattle.figures.specs.Entry.{bits, differ}
 use Rattle.figures.specs.Directory.{unit, listed}
 use Rattle.figures.specs.Words.{encode, decode, size, nT1, nT2, nB1, nB2}
-use Rattle.figures.specs.Sound.{every, noneOf, car, carSound, cartSound, knownPolicy, knownSize, exactLength}
+use Rattle.figures.specs.Sound.{every, noneOf, car, carSound, cartSound, knownPolicy}
 
 -- The words' number, policy and size are in order.
 pub record Orderly (w : List ℕ) : Type 0 where
-  pub length-is : exactLength w ≡ true
+  pub length-is : ∣ w ∣ ≡ 8 + 4 * size w
   pub policy-known : knownPolicy (getD w 0 0) ≡ true
-  pub size-known : knownSize (size w) ≡ true
+  pub c-least : 1 ≤ size w
+  pub c-most : size w ≤ 1024
 
 -- "p ≤ c; |T1|+|T2| ≤ c; |B1|+|B2| ≤ c; both histories are empty if |T1|+|T2| < c"
 abbrev pub sizesFit : List ℕ → Bool

@@ -1,0 +1,2 @@
+-- Laws of the tally for the run above it.
+pub mod Tallies
