@@ -1,11 +1,11 @@
 // The four lists in the words: a head to a tail, a page to a tail, a page back from a history, a head dropped.
 // Lists are named by number in their order: 0 is T1, 1 is T2, 2 is B1, 3 is B2.
 ghost use mathlib.Core.Path.{_≡_};
-ghost use Prim.Native.Nat.{ℕ, _+_, _≤_, _<_};
+ghost use Prim.Native.Nat.{ℕ, _+_, _*_, _≤_, _<_};
 ghost use mathlib.Core.List.{List, _∷_, _++_};
 ghost use lib.ListN.{length, getD};
 ghost use Rattle.figures.specs.Entry.{Entry, cleared, without, dropHead};
-ghost use Rattle.figures.specs.Directory.{Directory, T1, T2, listOf, withList, toTail, placeNew, cached};
+ghost use Rattle.figures.specs.Directory.{Directory, T1, T2, listOf, withList, toTail, placeNew, cached, remembered};
 ghost use Rattle.figures.specs.Words.{flags, encode};
 ghost use Rattle.figures.specs.Request.{hit};
 ghost use Rattle.entries.specs.Stretches.{Room, nameOf, startOf, index};
@@ -99,7 +99,7 @@ pub fn come_back(dir: &mut [u32], b: usize, k: usize, t: usize, page: u32, flags
 pub fn drop_head(dir: &mut [u32], b: usize)
     requires { ⌜ Room (now dir) ⌝ }
     requires { ⌜ (2 ≤ b) × (b ≤ 3) × (1 ≤ getD (now dir) (4 + b) 0) ⌝ }
-    ensures { λ _. ⌜ ((d : Directory) → encode d ≡ now (dir .entry) → now (dir .exit) ≡ encode (withList (nameOf b) (dropHead (listOf (nameOf b) d)) d)) ⌝ }
+    ensures { λ _. ⌜ ((d : Directory) → encode d ≡ now (dir .entry) → cached d + remembered d ≤ 2 * d .c → now (dir .exit) ≡ encode (withList (nameOf b) (dropHead (listOf (nameOf b) d)) d)) ⌝ }
 {
     let a = start_of(dir, b);
     let e = start_of(dir, 4);

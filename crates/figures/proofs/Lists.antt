@@ -33,6 +33,16 @@ entryOf page bit filter = record { page = page; bit = bit; filter = filter }
 abbrev pub is : ℕ → Entry → ℕ
 is x e = if eqb (e .page) x then 1 else 0
 
+-- A list with a head.
+pub record HasHead (l : List Entry) : Type 0 where
+  pub head : Entry
+  pub rest : List Entry
+  pub front : l ≡ head ∷ rest
+
+pub has-head : (l : List Entry) → 1 ≤ ∣ l ∣ → HasHead l
+has-head [] h = absurd (omega arith)
+has-head (e ∷ es) h = record { head = e; rest = es; front = refl }
+
 pub length-tail : (l : List Entry) (e : Entry) → ∣ l ++ (e ∷ []) ∣ ≡ ∣ l ∣ + 1
 length-tail l e = length-append l (e ∷ []) ∙ omega arith
 
