@@ -213,7 +213,7 @@ pub fn evict(dir: &mut [u32]) -> Evicted
 // Lines 6 to 10, for a page in neither history.
 fn trim(dir: &mut [u32])
     requires { ⌜ Room (now dir) ⌝ }
-    requires { ⌜ (getD (now dir) 1 0 ≤ 1024) × (nB1 (now dir) + nB2 (now dir) ≤ getD (now dir) 1 0 + 1) ⌝ }
+    requires { ⌜ (getD (now dir) 1 0 ≤ 1024) × (nT1 (now dir) + nT2 (now dir) + 1 ≤ getD (now dir) 1 0) × (nB1 (now dir) + nB2 (now dir) ≤ getD (now dir) 1 0 + 1) ⌝ }
     ensures { λ _. ⌜ ((d : Directory) → encode d ≡ now (dir .entry) → now (dir .exit) ≡ encode (Cart.trim d)) ⌝ }
 {
     let c = dir[1];
