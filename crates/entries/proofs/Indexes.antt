@@ -1,6 +1,6 @@
 -- Where a page stands in a list: below its length just where the list has the page, and what stands before and after it.
 -- Assumes nothing.
-use mathlib.Core.Path.{_≡_, refl, ap}
+use mathlib.Core.Path.{_≡_, refl, ap, sym, subst}
 use mathlib.Core.Bool.{Bool, true, false, true≢false, false≢true}
 use mathlib.Core.List.{List, [], _∷_, _++_}
 use Prim.Native.Nat.{ℕ, suc, _+_, _*_, _≤_, _<_}
@@ -11,7 +11,7 @@ use Rattle.figures.specs.Entry.{Entry, marked, has, mark, without}
 use Rattle.figures.specs.Directory.{Directory, cached, remembered}
 use Rattle.figures.specs.Words.{encode}
 use Rattle.figures.proofs.Encoding.{words-fit}
-use Rattle.entries.specs.Stretches.{Room, index}
+use Rattle.entries.specs.Stretches.{Room, index, startOf}
 
 pub index-at-most : (x : ℕ) (l : List Entry) → index x l ≤ ∣ l ∣
 index-at-most x [] = omega arith
@@ -95,3 +95,8 @@ mark-append x (e ∷ a) b = go (eqb (e .page) x) (has x a) (mark-append x a b)
 -- The words of a directory whose lists fit have room for all that the leaves do.
 pub roomy : (d : Directory) → cached d + remembered d ≤ 2 * d .c → d .c ≤ 1024 → Room (encode d)
 roomy d j k = let n = words-fit d j in record { short = omega arith; held = omega arith }
+
+pub room-for-new : (d : Directory) (w : List ℕ) → w ≡ encode d → cached d + remembered d + 1 ≤ 2 * d .c → d .c ≤ 1024 → Room w × (startOf 4 w + 2 ≤ ∣ w ∣)
+room-for-new d w is fits small =
+    let n = words-fit d (omega arith) in
+    subst (λ (v : List ℕ). Room v × (startOf 4 v + 2 ≤ ∣ v ∣)) (sym is) (roomy d (omega arith) small, omega arith)

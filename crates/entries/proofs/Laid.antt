@@ -1,6 +1,6 @@
 -- The words of a directory as three parts: the eight in front, those of all listed entries, the zeros.
 -- What a change of list i, 0 to 3, does to each part, whichever list it is. Assumes nothing.
-use mathlib.Core.Path.{_≡_, refl, sym, ap, _∙_}
+use mathlib.Core.Path.{_≡_, refl, sym, ap, _∙_, subst}
 use mathlib.Core.Bool.{Bool, true, false}
 use mathlib.Core.List.{List, [], _∷_, _++_, append-assoc, append-nil}
 use Prim.Native.Nat.{ℕ, zero, suc, _+_, _-_, _*_, _%_, _≤_}
@@ -34,6 +34,20 @@ heads d = d .policy ∷ d .c ∷ d .p ∷ d .q ∷ ∣ d .t1 ∣ ∷ ∣ d .t2 �
 
 pub laid : (d : Directory) → encode d ≡ heads d ++ (words (listed d) ++ zeros d)
 laid d = simp (words-append, append-assoc)
+
+-- What the words in front say of the directory that they are of, in numbers that omega reads.
+pub record Header (d : Directory) (w : List ℕ) : Type 0 where
+  pub policy : getD w 0 0 ≡ d .policy
+  pub c : getD w 1 0 ≡ d .c
+  pub p : getD w 2 0 ≡ d .p
+  pub q : getD w 3 0 ≡ d .q
+  pub t1 : getD w 4 0 ≡ ∣ d .t1 ∣
+  pub t2 : getD w 5 0 ≡ ∣ d .t2 ∣
+  pub b1 : getD w 6 0 ≡ ∣ d .b1 ∣
+  pub b2 : getD w 7 0 ≡ ∣ d .b2 ∣
+
+pub header : (d : Directory) (w : List ℕ) → encode d ≡ w → Header d w
+header d w is = subst (Header d) is (record { policy = refl; c = refl; p = refl; q = refl; t1 = refl; t2 = refl; b1 = refl; b2 = refl })
 
 pub length-listed : (d : Directory) → ∣ listed d ∣ ≡ cached d + remembered d
 length-listed d = simp length-append (omega arith)

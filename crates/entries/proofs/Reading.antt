@@ -1,15 +1,18 @@
 -- Words that hold a list of entries, and what is read there: the page and the flags of an entry, the entries after it.
 -- Assumes nothing.
-use mathlib.Core.Path.{_≡_, _∙_}
+use mathlib.Core.Path.{_≡_, refl, sym, _∙_}
 use mathlib.Core.List.{List, _∷_, _++_, append-assoc}
-use Prim.Native.Nat.{ℕ, _+_, _*_, _≤_, _<_}
+use Prim.Native.Nat.{ℕ, zero, suc, _+_, _*_, _≤_, _<_}
 use native.Mathlib.Numerals.{add-one}
 use native.Mathlib.Omega.{arith}
 use lib.ListN.{length, take, drop, getD, length-append, take-append-drop}
 use lib.Seq.{length-take-le, drop-cons, getD-at, getD-append-add}
 use Rattle.figures.specs.Entry.{Entry, newShort}
-use Rattle.figures.specs.Words.{flags, words}
+use Rattle.figures.specs.Directory.{Directory, listOf}
+use Rattle.figures.specs.Words.{flags, words, zeros, encode}
+use Rattle.entries.specs.Stretches.{nameOf, startOf}
 use Rattle.figures.proofs.Encoding.{length-words, words-append}
+use Rattle.entries.proofs.Laid.{heads, header}
 
 -- The words w hold the list l from word a on.
 pub record Held (w : List ℕ) (a : ℕ) (l : List Entry) : Type 0 where
@@ -51,3 +54,41 @@ entry-at {w} {a} {l} h i fits =
     let front : drop i l ≡ e ∷ drop (i + 1) l = rw add-one (drop-cons l i (newShort 0) fits) in
     let there : Held w (a + 2 * i) (e ∷ drop (i + 1) l) = rw front at (held-from h i (omega arith)) in
     record { here = e; front = front; page-word = first-page there; flags-word = first-flags there }
+
+-- The words of a directory hold each of its lists from its start on, and those of T1 and T2 together from word 8 on.
+module _ (d : Directory) (w : List ℕ) (is : encode d ≡ w) where
+  pub list-held : (i : ℕ) → i ≤ 3 → Held w (startOf i w) (listOf (nameOf i) d)
+  list-held zero h = record {
+    before = heads d;
+    after = words (d .t2) ++ (words (d .b1) ++ (words (d .b2) ++ zeros d));
+    parts = sym is;
+    starts = refl;
+  }
+  list-held (suc zero) h = record {
+    before = heads d ++ words (d .t1);
+    after = words (d .b1) ++ (words (d .b2) ++ zeros d);
+    parts = sym is;
+    starts = omega (arith, header d w is, length-words (d .t1));
+  }
+  list-held (suc (suc zero)) h = record {
+    before = heads d ++ (words (d .t1) ++ words (d .t2));
+    after = words (d .b2) ++ zeros d;
+    parts = sym is ∙ simp append-assoc;
+    starts =
+    omega (arith, header d w is, length-append (words (d .t1)) (words (d .t2)), length-words (d .t1), length-words (d .t2));
+  }
+  list-held (suc (suc (suc zero))) h = record {
+    before = heads d ++ (words (d .t1) ++ (words (d .t2) ++ words (d .b1)));
+    after = zeros d;
+    parts = sym is ∙ simp append-assoc;
+    starts = simp (length-append, length-words) (omega (arith, header d w is));
+  }
+  list-held (suc (suc (suc (suc i)))) h = absurd (omega arith)
+
+  pub cache-held : Held w 8 (d .t1 ++ d .t2)
+  cache-held = record {
+    before = heads d;
+    after = words (d .b1) ++ (words (d .b2) ++ zeros d);
+    parts = sym is ∙ simp (words-append, append-assoc);
+    starts = refl;
+  }

@@ -1,16 +1,19 @@
 -- A list searched entry by entry: for a page, and for a page that stands in it twice.
 -- Assumes nothing.
 use mathlib.Core.Path.{_≡_, sym, ap, _∙_}
-use mathlib.Core.Bool.{false}
+use mathlib.Core.Bool.{true, false}
 use mathlib.Core.List.{List, _++_}
 use Prim.Native.Nat.{ℕ, suc, _+_, _-_, _*_, _≤_, _<_}
 use native.Mathlib.Omega.{arith}
 use lib.ListN.{length, drop, getD, length-drop}
 use borrow.Author.Tests.{eq-eqb, ne-eqb}
-use Rattle.figures.specs.Entry.{Entry, differ}
-use Rattle.figures.specs.Words.{words}
-use Rattle.entries.specs.Stretches.{index}
-use Rattle.entries.proofs.Reading.{Held, held-from, EntryAt, entry-at}
+use Rattle.figures.specs.Choice.{∣_∣}
+use Rattle.figures.specs.Entry.{Entry, has, differ}
+use Rattle.figures.specs.Directory.{Directory, listOf}
+use Rattle.figures.specs.Words.{words, encode}
+use Rattle.entries.specs.Stretches.{nameOf, startOf, index}
+use Rattle.entries.proofs.Laid.{length-of-list}
+use Rattle.entries.proofs.Reading.{Held, held-from, EntryAt, entry-at, list-held}
 use Rattle.entries.proofs.Indexes.{index-has, index-lacks}
 
 module _ {w : List ℕ} {a : ℕ} {l : List Entry} {i : ℕ} (s : EntryAt w a l i) (x : ℕ) where
@@ -21,7 +24,7 @@ module _ {w : List ℕ} {a : ℕ} {l : List Entry} {i : ℕ} (s : EntryAt w a l 
   index-later not = rw (s .front, ne-eqb (s .here .page) x (λ is. not (s .page-word ∙ is)))
 
 -- Page x stands at k among the n entries from word a on, as `find` says.
-abbrev Found : List ℕ → ℕ → ℕ → ℕ → ℕ → Type 0
+abbrev pub Found : List ℕ → ℕ → ℕ → ℕ → ℕ → Type 0
 Found w a n x k = (P R : List ℕ) (l : List Entry) → w ≡ P ++ (words l ++ R) → length P ≡ a → length l ≡ n → k ≡ index x l
 
 -- the page of entry i, looked for among the later entries
@@ -46,3 +49,20 @@ module _ {w : List ℕ} {a n i k : ℕ} {l : List Entry} (h : Held w a l) (many 
 
   pub differ-later : n - i - 1 ≤ k → differ (drop i l) ≡ differ (drop (i + 1) l)
   differ-later is = rw (s .front, index-lacks (s .here .page) later (omega (arith, place, length-later)))
+
+-- What `find` says where list i of a directory is searched.
+module _ (d : Directory) (w : List ℕ) (is : encode d ≡ w) (i : ℕ) (named : i ≤ 3) (a n x k : ℕ)
+    (found : Found w a n x k) (start : a ≡ startOf i w) (size : n ≡ getD w (4 + i) 0) where
+  length-searched : ∣ listOf (nameOf i) d ∣ ≡ n
+  length-searched = sym (length-of-list i d w is named) ∙ sym size
+
+  pub found-index : k ≡ index x (listOf (nameOf i) d)
+  found-index =
+      let there = list-held d w is i named in
+      found (there .before) (there .after) (listOf (nameOf i) d) (there .parts) (there .starts ∙ sym start) length-searched
+
+  pub found-has : k < n → has x (listOf (nameOf i) d) ≡ true
+  found-has h = index-has x (listOf (nameOf i) d) (omega (arith, found-index, length-searched))
+
+  pub found-lacks : n ≤ k → has x (listOf (nameOf i) d) ≡ false
+  found-lacks h = index-lacks x (listOf (nameOf i) d) (omega (arith, found-index, length-searched))
