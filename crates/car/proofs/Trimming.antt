@@ -44,11 +44,11 @@ trim-fits d one-free history long =
     by-test (Fits d) (eqb (∣ d .t1 ∣ + ∣ d .b1 ∣) (d .c))
     (λ is. record { room = omega (arith, length-head-dropped (d .b1), eqb-true (∣ d .t1 ∣ + ∣ d .b1 ∣) (d .c) is); same-c = refl })
     (λ is-not.
-      by-test (Fits d) (eqb (cached d + remembered d) (2 * d .c))
-      (λ full. record {
-        room = omega (arith, length-head-dropped (d .b2), eqb-true (cached d + remembered d) (2 * d .c) full);
-        same-c = refl;
-      })
-      (λ not-full.
-        let differs = eqb-false (cached d + remembered d) (2 * d .c) not-full in
-        record { room = omega arith; same-c = refl }))
+    by-test (Fits d) (eqb (cached d + remembered d) (2 * d .c))
+    (λ full. record {
+      room = omega (arith, length-head-dropped (d .b2), eqb-true (cached d + remembered d) (2 * d .c) full);
+      same-c = refl;
+    })
+    (λ not-full.
+    let differs = eqb-false (cached d + remembered d) (2 * d .c) not-full in
+    record { room = omega arith; same-c = refl }))

@@ -1,10 +1,12 @@
 -- What CART's functions need of the words that they are given, and which hand of the definition they hold.
 -- These functions are internal: the public operations ask for nothing.
 use mathlib.Core.Path.{_≡_}
-use mathlib.Core.Bool.{true}
+use mathlib.Core.Bool.{true, _||_}
 use mathlib.Core.List.{List, [], _∷_}
 use Prim.Native.Nat.{ℕ, _+_, _*_, _≤_}
 use lib.ListN.{getD}
+use lib.Dec.{ltb, eqb}
+use Rattle.figures.specs.Choice.{if_then_else_}
 use Rattle.figures.specs.Entry.{Entry, bits, short, long, total}
 use Rattle.figures.specs.Directory.{unit, inCache}
 use Rattle.figures.specs.Words.{flags, encode, decode, size, nT1, nT2, nB1, nB2}
@@ -16,6 +18,10 @@ use Rattle.figures.specs.Cart.{cost}
 abbrev pub headFlags : List Entry → ℕ
 headFlags [] = 0
 headFlags (e ∷ l) = flags e
+
+-- The list that trim takes from, by its number: B1 where |B1| > q or B2 is empty, else B2.
+abbrev pub oldestList : ℕ → ℕ → ℕ → ℕ
+oldestList q k1 k2 = if ltb q k1 || eqb k2 0 then 2 else 3
 
 -- A sound directory of CART that is full.
 pub record Full (w : List ℕ) : Type 0 where
@@ -65,5 +71,5 @@ pub record Opened (w : List ℕ) (nS nL : ℕ) : Type 0 where
   pub q-fits : getD w 3 0 ≤ 2 * size w
   pub room : nT1 w + nT2 w + 1 ≡ size w
   pub history-most : nB1 w + nB2 w ≤ size w + 1
-  pub shorts : nS ≡ inCache short (decode w)
-  pub longs : nL ≡ inCache long (decode w)
+  pub shorts : nS ≤ nT1 w + nT2 w
+  pub longs : nL ≤ nT1 w + nT2 w

@@ -13,7 +13,7 @@ ghost use Rattle.figures.specs.Cart as Cart;
 ghost use Rattle.figures.specs.Request.{cartPolicy, missed};
 ghost use Rattle.entries.specs.Stretches.{Room, nameOf};
 ghost use Rattle.entries.specs.Answers.{Tells};
-ghost use Rattle.cart.specs.Passing.{Full, Passing, Holds, Turned, Ended, Opened, headFlags};
+ghost use Rattle.cart.specs.Passing.{Full, Passing, Holds, Turned, Ended, Opened, headFlags, oldestList};
 use entries::lists;
 use entries::numbers;
 use entries::search;
@@ -210,6 +210,16 @@ pub fn evict(dir: &mut [u32]) -> Evicted
     demote(dir, kept)
 }
 
+// The history that trim takes from: 2 is B1, 3 is B2.
+fn oldest(q: u32, k1: u32, k2: u32) -> usize
+    ensures { λ r. ⌜ r ≡ oldestList q k1 k2 ⌝ }
+{
+    if q < k1 {
+        return 2;
+    }
+    if k2 == 0 { 2 } else { 3 }
+}
+
 // Lines 6 to 10, for a page in neither history.
 fn trim(dir: &mut [u32])
     requires { ⌜ Room (now dir) ⌝ }
@@ -217,15 +227,11 @@ fn trim(dir: &mut [u32])
     ensures { λ _. ⌜ ((d : Directory) → encode d ≡ now (dir .entry) → now (dir .exit) ≡ encode (Cart.trim d)) ⌝ }
 {
     let c = dir[1];
-    let q = dir[3];
     let k1 = dir[6];
     let k2 = dir[7];
     if k1 + k2 == c + 1 {
-        if q < k1 || k2 == 0 {
-            lists::drop_head(dir, 2);
-        } else {
-            lists::drop_head(dir, 3);
-        }
+        let b = oldest(dir[3], k1, k2);
+        lists::drop_head(dir, b);
     }
 }
 

@@ -75,7 +75,7 @@ module _ (d : Directory) (w : List ℕ) (is : encode d ≡ w) where
     after = words (d .b2) ++ zeros d;
     parts = sym is ∙ simp append-assoc;
     starts =
-    omega (arith, header d w is, length-append (words (d .t1)) (words (d .t2)), length-words (d .t1), length-words (d .t2));
+        omega (arith, header d w is, length-append (words (d .t1)) (words (d .t2)), length-words (d .t1), length-words (d .t2));
   }
   list-held (suc (suc (suc zero))) h = record {
     before = heads d ++ (words (d .t1) ++ (words (d .t2) ++ words (d .b1)));

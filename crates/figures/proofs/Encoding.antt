@@ -155,12 +155,11 @@ one-by-one : (w : List ℕ) (n i : ℕ) → i + n ≤ ∣ w ∣ → wordsFrom i 
 one-by-one w zero i h = refl
 one-by-one w (suc n) i h = rw (drop-cons w i 0 (omega arith), one-by-one w n (suc i) (omega arith))
 
-pub encode-decode : (w : List ℕ) → sound w ≡ true → encode (decode w) ≡ w
-unfolding sound decode
-encode-decode w h =
-    let said = simp reads at h in
-    let flags-small : allAtMost 3 (flagWords (take (used w) (drop 8 w))) ≡ true = search in
-    let unused-small : allAtMost 0 (unused w) ≡ true = search in
+-- Lists that fit, known flags, and zeros after them: that much of soundness makes words those of a directory.
+pub shaped : (w : List ℕ) → ∣ w ∣ ≡ 8 + 4 * size w → nT1 w + nT2 w ≤ size w → nB1 w + nB2 w ≤ size w
+    → allAtMost 3 (flagWords (take (used w) (drop 8 w))) ≡ true → allAtMost 0 (unused w) ≡ true → encode (decode w) ≡ w
+unfolding decode
+shaped w exact cache history flags-small unused-small =
     let t1 = length-entries (nT1 w) (drop 8 w) (simp length-drop (omega arith)) in
     let t2 = length-entries (nT2 w) (drop (8 + 2 * nT1 w) w) (simp length-drop (omega arith)) in
     let b1 = length-entries (nB1 w) (drop (8 + 2 * (nT1 w + nT2 w)) w) (simp length-drop (omega arith)) in
@@ -172,6 +171,10 @@ encode-decode w h =
     let body : drop 8 (encode (decode w)) ≡ drop 8 w =
     rw (encode-listed, used-part, unused-part, ← drop-drop) (take-append-drop (used w) (drop 8 w)) in
     cc (one-by-one w 8 0 (omega arith))
+
+pub encode-decode : (w : List ℕ) → sound w ≡ true → encode (decode w) ≡ w
+unfolding sound
+encode-decode w h = let said = simp reads at h in shaped w (omega arith) (omega arith) (omega arith) (search) (search)
 
 pub words-are-directories : WordsAreDirectories
 words-are-directories = record { decode-encode = decode-encode; encode-decode = encode-decode; one-to-one = one-to-one }

@@ -74,7 +74,13 @@ module _ (π : Policy) (x : ℕ) (h : Hand) where
       go false true e f = subst P (sym (missed-B2 e f)) (in-B2 e f)
       go false false e f = subst P (sym (missed-new e f)) (new e f)
 
-  -- The answer's moves are those of the evict part, wherever the page was.
+  -- The evicted page, its list and the moves are those of the evict part, wherever the requested page was.
+  pub missed-page : missed π x h .page ≡ h .page
+  missed-page = missed-by-cases (λ s. s .page ≡ h .page) (λ e. refl) (λ e f. refl) (λ e f. refl)
+
+  pub missed-list : missed π x h .list ≡ h .list
+  missed-list = missed-by-cases (λ s. s .list ≡ h .list) (λ e. refl) (λ e f. refl) (λ e f. refl)
+
   pub missed-moves : missed π x h .moves ≡ h .moves
   missed-moves = missed-by-cases (λ s. s .moves ≡ h .moves) (λ e. refl) (λ e f. refl) (λ e f. refl)
 

@@ -81,8 +81,8 @@ EvictsOne = WhenFull (λ d. Evicts d (policyOf (d .policy) .evict d))
 abbrev pub CountsKept : Type 0
 CountsKept =
     WhenFull (λ d.
-      let h = Cart.evict d in
-      d .policy ≡ cart → (h .nS ≡ inCache short (h .dir)) × (h .nL ≡ inCache long (h .dir)))
+    let h = Cart.evict d in
+    d .policy ≡ cart → (h .nS ≡ inCache short (h .dir)) × (h .nL ≡ inCache long (h .dir)))
 
 -- A history that trim takes the head of has one. [Stops]
 abbrev pub CarTrimHasHead : Directory → Type 0
@@ -96,7 +96,7 @@ CartTrimHasHead d = remembered d ≡ d .c + 1 → ∣ d .b2 ∣ ≡ 0 → 1 ≤ 
 abbrev pub TrimHasHead : Type 0
 TrimHasHead =
     WhenFull (λ d.
-      if eqb (d .policy) car then CarTrimHasHead (Car.evict d .dir) else CartTrimHasHead (Cart.evict d .dir))
+    if eqb (d .policy) car then CarTrimHasHead (Car.evict d .dir) else CartTrimHasHead (Cart.evict d .dir))
 
 -- HAND MOVES
 

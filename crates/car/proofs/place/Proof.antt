@@ -60,8 +60,8 @@ returns c h is =
     let x = s .args .page in
     let f = b .before .before .before .before .before in
     let start = f .before .before .start-of .ensures in
-    let at = found-index (h .dir) w is 2 (omega arith) _ _ x (f .find .result) (f .find .ensures .1) start (omega arith) in
-    let found = found-has (h .dir) w is 2 (omega arith) _ _ x (f .find .result) (f .find .ensures .1) start (omega arith) (omega arith) in
+    let at = found-index (h .dir) w is 2 (omega arith) _ _ x (f .find .result) (f .find .ensures .1) start (f .before .before .before .before .before .before .wide .ensures) in
+    let found = found-has (h .dir) w is 2 (omega arith) _ _ x (f .find .result) (f .find .ensures .1) start (f .before .before .before .before .before .before .wide .ensures) (omega arith) in
     placed-B1 x h w (b .come-back .last .0) (b .before .before .raised-target .result) is found (b .before .before .raised-target .ensures)
     (b .come-back .ensures (h .dir) (newShort x) is at refl refl)
 
@@ -91,10 +91,10 @@ returns-2 c h is =
     let s = g .before .before .before .before .before .before .before .before .before in
     let w = s .args .dir .now in
     let x = s .args .page in
-    let lacks = found-lacks (h .dir) w is 2 (omega arith) _ _ x (g .find .result) (g .find .ensures .1) (g .before .before .start-of .ensures) (omega arith) (omega arith) in
+    let lacks = found-lacks (h .dir) w is 2 (omega arith) _ _ x (g .find .result) (g .find .ensures .1) (g .before .before .start-of .ensures) (g .before .before .before .before .before .before .wide .ensures) (omega arith) in
     let start = f .before .before .start-of2 .ensures in
-    let at = found-index (h .dir) w is 3 (omega arith) _ _ x (f .find2 .result) (f .find2 .ensures .1) start (omega arith) in
-    let found = found-has (h .dir) w is 3 (omega arith) _ _ x (f .find2 .result) (f .find2 .ensures .1) start (omega arith) (omega arith) in
+    let at = found-index (h .dir) w is 3 (omega arith) _ _ x (f .find2 .result) (f .find2 .ensures .1) start (f .before .before .before .before .before .before .before .before .before .wide2 .ensures) in
+    let found = found-has (h .dir) w is 3 (omega arith) _ _ x (f .find2 .result) (f .find2 .ensures .1) start (f .before .before .before .before .before .before .before .before .before .wide2 .ensures) (omega arith) in
     placed-B2 x h w (b .come-back2 .last .0) (b .before .before .lowered-target .result) is lacks found (b .before .before .lowered-target .ensures)
     (b .come-back2 .ensures (h .dir) (newShort x) is at refl refl)
 
@@ -122,8 +122,8 @@ returns-3 c h is =
     let s = g .before .before .before .before .before .before .before .before .before in
     let w = s .args .dir .now in
     let x = s .args .page in
-    let not-b1 = found-lacks (h .dir) w is 2 (omega arith) _ _ x (g .find .result) (g .find .ensures .1) (g .before .before .start-of .ensures) (omega arith) (omega arith) in
-    let not-b2 = found-lacks (h .dir) w is 3 (omega arith) _ _ x (f .find2 .result) (f .find2 .ensures .1) (f .before .before .start-of2 .ensures) (omega arith) (omega arith) in
+    let not-b1 = found-lacks (h .dir) w is 2 (omega arith) _ _ x (g .find .result) (g .find .ensures .1) (g .before .before .start-of .ensures) (g .before .before .before .before .before .before .wide .ensures) (omega arith) in
+    let not-b2 = found-lacks (h .dir) w is 3 (omega arith) _ _ x (f .find2 .result) (f .find2 .ensures .1) (f .before .before .start-of2 .ensures) (f .before .before .before .before .before .before .before .before .before .wide2 .ensures) (omega arith) in
     placed-new x h w (c .before .before .place-new .last .0) 0 is not-b1 not-b2
     (c .before .before .place-new .ensures (Car.trim (h .dir)) (sym (c .before .before .before .before .before .before .trim .ensures (h .dir) is)))
 

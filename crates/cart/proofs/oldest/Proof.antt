@@ -1,0 +1,26 @@
+use mathlib.Core.Path.{sym}
+use native.Mathlib.Omega.{arith}
+use borrow.Author.Needs.{needs}
+use Rattle.cart.proofs.Trimming.{oldest-above, oldest-empty, oldest-other}
+use Rattle.cart.proofs.oldest.Statement.{statement}
+use Rattle.cart.proofs.oldest.Tie as tie
+use Rattle.cart.proofs.oldest.Reads as reads
+use Rattle.cart.proofs.oldest.Lts as lts
+
+returns : tie.Need-returns
+returns c =
+    let a = c .before .args in
+    sym (oldest-above (a .q) (a .k1) (a .k2) (c .if1 .taken))
+
+returns-2 : tie.Need-returns-2
+returns-2 c =
+    let a = c .before .before .args in
+    sym (oldest-empty (a .q) (a .k1) (a .k2) (omega arith) (omega arith))
+
+returns-3 : tie.Need-returns-3
+returns-3 c =
+    let a = c .before .before .args in
+    sym (oldest-other (a .q) (a .k1) (a .k2) (omega arith) (λ e. omega arith))
+
+pub oldest-spec : {M : Type 1} → statement M
+oldest-spec = tie.close (tie.spec returns returns-2 returns-3)

@@ -1,0 +1,6 @@
+-- The laws that the proofs of this crate cite, and that the promises leave one outcome.
+pub mod Tests
+pub mod Parts
+pub mod Rules
+pub mod Refused
+pub mod Determined

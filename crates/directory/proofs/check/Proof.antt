@@ -1,0 +1,116 @@
+-- The answer is the check's number: each return is the refusal whose turn it is, since the tests before it passed.
+use mathlib.Core.Path.{_≡_, sym, _∙_}
+use mathlib.Core.Bool.{true}
+use mathlib.Core.List.{List}
+use Prim.Native.Nat.{ℕ, _+_, _*_, _≤_}
+use native.Mathlib.Omega.{arith}
+use lib.ListN.{getD}
+use borrow.Author.Tests.{not-true, not-false}
+use Rattle.figures.specs.Choice.{∣_∣}
+use Rattle.figures.specs.Words.{size}
+use Rattle.figures.specs.Sound.{knownPolicy, knownSize}
+use Rattle.figures.proofs.Encoding.{reads}
+use Rattle.directory.proofs.Refused.{check-short, check-policy, check-size, check-length, check-unsound, check-sound}
+use borrow.Author.Needs.{needs}
+use Rattle.directory.proofs.check.Statement.{statement}
+use Rattle.directory.proofs.check.Tie as tie
+
+returns : tie.Need-returns
+returns c = check-short _ (c .if1 .taken)
+
+shared-slice-read-known-policy : tie.Need-shared-slice-read-known-policy
+shared-slice-read-known-policy c = search needs
+
+known-policy-requires : tie.Need-known-policy-requires
+known-policy-requires c κs = search needs
+
+returns-2 : tie.Need-returns-2
+returns-2 c =
+    check-policy _ (c .before .before .before .if1 .left) (sym (c .before .known-policy .ensures) ∙ not-true _ (c .if2 .taken))
+
+abbrev w : tie.Else2 → List ℕ
+w c = c .before .before .before .before .before .args .dir .now
+
+eight : (c : tie.Else2) → 8 ≤ ∣ w c ∣
+eight c = c .before .before .before .if1 .left
+
+policy : (c : tie.Else2) → knownPolicy (getD (w c) 0 0) ≡ true
+policy c = sym (c .before .known-policy .ensures) ∙ not-false _ (c .if2 .left)
+
+shared-slice-read-known-size : tie.Need-shared-slice-read-known-size
+shared-slice-read-known-size c = search needs
+
+known-size-requires : tie.Need-known-size-requires
+known-size-requires c κs = search needs
+
+returns-3 : tie.Need-returns-3
+returns-3 c =
+    let e = c .before .before .before in
+    check-size _ (eight e) (policy e) (sym (c .before .known-size .ensures) ∙ not-true _ (c .if3 .taken))
+
+sized : (c : tie.Else3) → knownSize (size (w (c .before .before .before))) ≡ true
+sized c = sym (c .before .known-size .ensures) ∙ not-false _ (c .if3 .left)
+
+shared-slice-read-wide : tie.Need-shared-slice-read-wide
+shared-slice-read-wide c = search needs
+
+wide-requires : tie.Need-wide-requires
+wide-requires c κs = search needs
+
+mul-if4 : tie.Need-mul-if4
+mul-if4 c = let said = simp reads at (sized (c .before .before)) in omega arith
+
+add-if4 : tie.Need-add-if4
+add-if4 c = let said = simp reads at (sized (c .before .before)) in omega arith
+
+returns-4 : tie.Need-returns-4
+returns-4 c =
+    let s = c .before .before .before in
+    let e = s .before .before .before in
+    check-length _ (eight e) (policy e) (sized s) (λ is. c .if4 .taken (omega arith))
+
+abbrev at-size : tie.Else4 → tie.Else3
+at-size c = c .before .before .before
+
+abbrev at-policy : tie.Else4 → tie.Else2
+at-policy c = at-size c .before .before .before
+
+exact : (c : tie.Else4) → (let w = w (at-policy c) in ∣ w ∣ ≡ 8 + 4 * size w)
+exact c = omega arith
+
+is-sound-requires : tie.Need-is-sound-requires
+is-sound-requires c κs =
+    let said = simp reads at (sized (at-size c)) in
+    record { length-is = exact c; policy-known = policy (at-policy c); c-least = omega arith; c-most = omega arith }
+
+returns-5 : tie.Need-returns-5
+returns-5 c =
+    let x = c .before .before in
+    check-unsound _ (eight (at-policy x)) (policy (at-policy x)) (sized (at-size x)) (exact x)
+    (sym (c .before .is-sound .ensures) ∙ not-true _ (c .if5 .taken))
+
+returns-6 : tie.Need-returns-6
+returns-6 c =
+    let x = c .before .before in
+    check-sound _ (eight (at-policy x)) (policy (at-policy x)) (sized (at-size x)) (exact x)
+    (sym (c .before .is-sound .ensures) ∙ not-false _ (c .if5 .left))
+
+pub check-spec : {M : Type 1} → statement M
+check-spec =
+    tie.close
+    (tie.spec
+    returns
+    shared-slice-read-known-policy
+    known-policy-requires
+    returns-2
+    shared-slice-read-known-size
+    known-size-requires
+    returns-3
+    shared-slice-read-wide
+    wide-requires
+    mul-if4
+    add-if4
+    returns-4
+    is-sound-requires
+    returns-5
+    returns-6)

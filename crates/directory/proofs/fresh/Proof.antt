@@ -1,0 +1,82 @@
+-- The answer is the number of a fresh directory, whose words are zeros with the policy and c put in; a refusal leaves the words.
+use mathlib.Core.Path.{_≡_, sym, _∙_}
+use mathlib.Core.Bool.{true}
+use Prim.Native.Nat.{_+_, _*_}
+use native.Mathlib.Omega.{arith}
+use lib.ListN.{replicate, length-set}
+use borrow.Author.Tests.{not-true, not-false}
+use Rattle.figures.specs.Choice.{∣_∣}
+use Rattle.figures.specs.Sound.{knownPolicy, knownSize}
+use Rattle.directory.proofs.Refused.{fresh-policy, fresh-size, fresh-length, fresh-words, fresh-accepted}
+use borrow.Author.Needs.{needs}
+use Rattle.directory.proofs.fresh.Statement.{statement}
+use Rattle.directory.proofs.fresh.Tie as tie
+
+known-policy-requires : tie.Need-known-policy-requires
+known-policy-requires c κs = search needs
+
+returns : tie.Need-returns
+returns c = fresh-policy _ _ _ (sym (c .before .known-policy .ensures) ∙ not-true _ (c .if1 .taken))
+
+known-size-requires : tie.Need-known-size-requires
+known-size-requires c κs = search needs
+
+policy : (c : tie.Else1) → knownPolicy (c .before .before .before .args .policy) ≡ true
+policy c = sym (c .before .known-policy .ensures) ∙ not-false _ (c .if1 .left)
+
+returns-2 : tie.Need-returns-2
+returns-2 c = fresh-size _ _ _ (policy (c .before .before)) (sym (c .before .known-size .ensures) ∙ not-true _ (c .if2 .taken))
+
+sized : (c : tie.Else2) → knownSize (c .before .before .before .before .before .args .c) ≡ true
+sized c = sym (c .before .known-size .ensures) ∙ not-false _ (c .if2 .left)
+
+wide-requires : tie.Need-wide-requires
+wide-requires c κs = search needs
+
+mul-if3 : tie.Need-mul-if3
+mul-if3 c = search needs
+
+add-if3 : tie.Need-add-if3
+add-if3 c = search needs
+
+returns-3 : tie.Need-returns-3
+returns-3 c =
+    fresh-length _ _ _ (policy (c .before .before .before .before)) (sized (c .before .before)) (λ is. c .if3 .taken (omega arith))
+
+clear-requires : tie.Need-clear-requires
+clear-requires c κs = search needs
+
+slice-write-dir : tie.Need-slice-write-dir
+slice-write-dir c = omega arith
+
+slice-write-dir-2 : tie.Need-slice-write-dir-2
+slice-write-dir-2 c = simp length-set (omega arith)
+
+same-length : tie.Need-same-length
+same-length c = search needs
+
+returns-4 : tie.Need-returns-4
+returns-4 c =
+    let e = c .before .before .before .before .before .before in
+    let a = e .before .before .before .before .before .args in
+    let exact : ∣ a .dir .now ∣ ≡ 8 + 4 * a .c = omega arith in
+    let cleared : c .before .before .clear .last .0 ≡ replicate (8 + 4 * a .c) 0 = rw exact at (c .before .before .clear .ensures) in
+    fresh-accepted _ _ _ (policy (e .before .before)) (sized e) exact _ (rw cleared (fresh-words (a .policy) (a .c)))
+
+pub fresh-spec : {M : Type 1} → statement M
+fresh-spec =
+    tie.close
+    (tie.spec
+    known-policy-requires
+    returns
+    known-size-requires
+    returns-2
+    wide-requires
+    mul-if3
+    add-if3
+    returns-3
+    clear-requires
+    slice-write-dir
+    slice-write-dir-2
+    same-length
+    returns-4)

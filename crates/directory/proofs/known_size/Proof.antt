@@ -1,0 +1,13 @@
+-- The answer is the test: by whether the size is at least 1.
+use borrow.Author.Tests.{le-leb, lt-leb}
+use Rattle.directory.proofs.known_size.Statement.{statement}
+use Rattle.directory.proofs.known_size.Tie as tie
+
+returns : tie.Need-returns
+returns c = rw (le-leb 1 (c .before .args .c) (c .if1 .taken))
+
+returns-2 : tie.Need-returns-2
+returns-2 c = rw (lt-leb 1 (c .before .args .c) (c .if1 .left))
+
+pub known-size-spec : {M : Type 1} → statement M
+known-size-spec = tie.close (tie.spec returns returns-2)

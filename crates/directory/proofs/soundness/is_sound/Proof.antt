@@ -1,0 +1,130 @@
+-- The answer is whether the words are sound: sizes, flags and zeros in order make them a directory's, and then the entries decide.
+use mathlib.Core.Path.{_≡_, sym, _∙_}
+use mathlib.Core.Bool.{true}
+use mathlib.Core.List.{List}
+use Prim.Native.Nat.{ℕ}
+use native.Mathlib.Omega.{arith}
+use borrow.Author.Tests.{not-true, not-false}
+use Rattle.figures.proofs.Encoding.{reads}
+use Rattle.directory.specs.Orderly.{sizesFit}
+use Rattle.directory.proofs.Tests.{denied}
+use Rattle.directory.proofs.Rules.{flagsKnown, restZero, sound-sizes, sound-flags, sound-zeros, held, sound-entries}
+use borrow.Author.Needs.{needs}
+use Rattle.directory.proofs.soundness.is_sound.Statement.{statement}
+use Rattle.directory.proofs.soundness.is_sound.Tie as tie
+
+sizes-fit-requires : tie.Need-sizes-fit-requires
+sizes-fit-requires c κs = search needs
+
+returns : tie.Need-returns
+returns c = denied (sound-sizes _) (sym (c .before .sizes-fit .ensures) ∙ not-true _ (c .if1 .taken))
+
+shared-slice-read-wide : tie.Need-shared-slice-read-wide
+shared-slice-read-wide c = search needs
+
+wide-requires : tie.Need-wide-requires
+wide-requires c κs = search needs
+
+shared-slice-read-wide-2 : tie.Need-shared-slice-read-wide-2
+shared-slice-read-wide-2 c = search needs
+
+wide-requires-2 : tie.Need-wide-requires-2
+wide-requires-2 c κs = search needs
+
+add-cached : tie.Need-add-cached
+add-cached c = let known = c .before .shared-slice-known3 .given in omega (arith, known 4, known 5)
+
+shared-slice-read-wide-3 : tie.Need-shared-slice-read-wide-3
+shared-slice-read-wide-3 c = search needs
+
+wide-requires-3 : tie.Need-wide-requires-3
+wide-requires-3 c κs = search needs
+
+shared-slice-read-wide-4 : tie.Need-shared-slice-read-wide-4
+shared-slice-read-wide-4 c = search needs
+
+wide-requires-4 : tie.Need-wide-requires-4
+wide-requires-4 c κs = search needs
+
+add-all : tie.Need-add-all
+add-all c = let known = c .before .shared-slice-known5 .given in omega (arith, known 6, known 7)
+
+abbrev start : tie.After-wide4 → tie.Start
+start c = c .before .before .before .before .before .before .before .before .before .before .before
+
+abbrev w : tie.After-wide4 → List ℕ
+w c = start c .args .dir .now
+
+sizes : (c : tie.After-wide4) → sizesFit (w c) ≡ true
+sizes c = let e = c .before .before .before .before .before .before .before .before in sym (e .before .sizes-fit .ensures) ∙ not-false _ (e .if1 .left)
+
+add-all-2 : tie.Need-add-all-2
+add-all-2 c = let said = simp reads at (sizes c) in omega arith
+
+flags-known-requires : tie.Need-flags-known-requires
+flags-known-requires c κs = let said = simp reads at (sizes c) in (omega arith, omega arith)
+
+-- The code counts as many entries as the words state.
+flags-are : (c : tie.After-flags-known) → c .flags-known .result ≡ flagsKnown (w (c .before))
+flags-are c = cc
+
+returns-2 : tie.Need-returns-2
+returns-2 c = denied (sound-flags _) (sym (flags-are (c .before)) ∙ not-true _ (c .if2 .taken))
+
+mul-all-zero : tie.Need-mul-all-zero
+mul-all-zero c = let said = simp reads at (sizes (c .before .before)) in omega arith
+
+add-all-zero : tie.Need-add-all-zero
+add-all-zero c = let said = simp reads at (sizes (c .before .before)) in omega arith
+
+all-zero-requires : tie.Need-all-zero-requires
+all-zero-requires c κs = let said = simp reads at (sizes (c .before .before)) in omega arith
+
+zeros-are : (c : tie.After-all-zero) → c .all-zero .result ≡ restZero (w (c .before .before .before))
+zeros-are c = cc
+
+returns-3 : tie.Need-returns-3
+returns-3 c = denied (sound-zeros _) (sym (zeros-are (c .before)) ∙ not-true _ (c .if3 .taken))
+
+flags : (c : tie.Else2) → flagsKnown (w (c .before .before)) ≡ true
+flags c = sym (flags-are (c .before)) ∙ not-false _ (c .if2 .left)
+
+zeros : (c : tie.Else3) → restZero (w (c .before .before .before .before)) ≡ true
+zeros c = sym (zeros-are (c .before)) ∙ not-false _ (c .if3 .left)
+
+entries-sound-requires : tie.Need-entries-sound-requires
+entries-sound-requires c κs =
+    let e = c .before .before in
+    held (start (e .before .before) .pre) (sizes (e .before .before)) (flags e) (zeros c)
+
+returns-4 : tie.Need-returns-4
+returns-4 c =
+    let e = c .before .before .before in
+    c .entries-sound .ensures
+    ∙ sound-entries (start (e .before .before) .pre) (sizes (e .before .before)) (flags e) (zeros (c .before))
+
+pub is-sound-spec : {M : Type 1} → statement M
+is-sound-spec =
+    tie.close
+    (tie.spec
+    sizes-fit-requires
+    returns
+    shared-slice-read-wide
+    wide-requires
+    shared-slice-read-wide-2
+    wide-requires-2
+    add-cached
+    shared-slice-read-wide-3
+    wide-requires-3
+    shared-slice-read-wide-4
+    wide-requires-4
+    add-all
+    add-all-2
+    flags-known-requires
+    returns-2
+    mul-all-zero
+    add-all-zero
+    all-zero-requires
+    returns-3
+    entries-sound-requires
+    returns-4)

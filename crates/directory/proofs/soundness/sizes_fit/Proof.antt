@@ -1,0 +1,99 @@
+-- The answer is whether the sizes fit: a failure is one of the rules that does not hold; the sums are of numbers below 2 ^ 32.
+use mathlib.Core.Path.{refl, sym}
+use native.Mathlib.Omega.{arith}
+use borrow.Author.Tests.{eqb-true}
+use Rattle.figures.proofs.Encoding.{reads}
+use Rattle.directory.proofs.Tests.{fails, agree}
+use borrow.Author.Needs.{needs}
+use Rattle.directory.proofs.soundness.sizes_fit.Statement.{statement}
+use Rattle.directory.proofs.soundness.sizes_fit.Tie as tie
+
+shared-slice-read-wide : tie.Need-shared-slice-read-wide
+shared-slice-read-wide c = search needs
+
+wide-requires : tie.Need-wide-requires
+wide-requires c κs = search needs
+
+shared-slice-read-wide-2 : tie.Need-shared-slice-read-wide-2
+shared-slice-read-wide-2 c = search needs
+
+wide-requires-2 : tie.Need-wide-requires-2
+wide-requires-2 c κs = search needs
+
+shared-slice-read-wide-3 : tie.Need-shared-slice-read-wide-3
+shared-slice-read-wide-3 c = search needs
+
+wide-requires-3 : tie.Need-wide-requires-3
+wide-requires-3 c κs = search needs
+
+add-cached : tie.Need-add-cached
+add-cached c = let known = c .before .shared-slice-known4 .given in omega (arith, known 4, known 5)
+
+shared-slice-read-wide-4 : tie.Need-shared-slice-read-wide-4
+shared-slice-read-wide-4 c = search needs
+
+wide-requires-4 : tie.Need-wide-requires-4
+wide-requires-4 c κs = search needs
+
+shared-slice-read-wide-5 : tie.Need-shared-slice-read-wide-5
+shared-slice-read-wide-5 c = search needs
+
+wide-requires-5 : tie.Need-wide-requires-5
+wide-requires-5 c κs = search needs
+
+add-remembered : tie.Need-add-remembered
+add-remembered c = let known = c .before .shared-slice-known6 .given in omega (arith, known 6, known 7)
+
+shared-slice-read-if1 : tie.Need-shared-slice-read-if1
+shared-slice-read-if1 c = search needs
+
+mul-if1 : tie.Need-mul-if1
+mul-if1 c = search needs
+
+shared-slice-read-if1-2 : tie.Need-shared-slice-read-if1-2
+shared-slice-read-if1-2 c = search needs
+
+returns : tie.Need-returns
+returns c = fails _ (λ h. let said = simp reads at h in omega arith)
+
+returns-2 : tie.Need-returns-2
+returns-2 c = fails _ (λ h. let said = simp reads at h in omega arith)
+
+returns-3 : tie.Need-returns-3
+returns-3 c = fails _ (λ h. let said = simp reads at h in omega arith)
+
+returns-4 : tie.Need-returns-4
+returns-4 c =
+    agree
+    _
+    _
+    (λ h. simp reads (omega arith, (omega arith, (omega arith, (λ less. omega (arith, eqb-true), refl)))))
+    (λ h. let said = simp reads at h in simp reads (omega (arith, said .1 .1 .1 .0 (omega arith))))
+
+returns-5 : tie.Need-returns-5
+returns-5 c = sym (simp reads (omega arith, (omega arith, (omega arith, (λ less. absurd (omega arith), refl)))))
+
+pub sizes-fit-spec : {M : Type 1} → statement M
+sizes-fit-spec =
+    tie.close
+    (tie.spec
+    shared-slice-read-wide
+    wide-requires
+    shared-slice-read-wide-2
+    wide-requires-2
+    shared-slice-read-wide-3
+    wide-requires-3
+    add-cached
+    shared-slice-read-wide-4
+    wide-requires-4
+    shared-slice-read-wide-5
+    wide-requires-5
+    add-remembered
+    shared-slice-read-if1
+    mul-if1
+    shared-slice-read-if1-2
+    returns
+    returns-2
+    returns-3
+    returns-4
+    returns-5)
