@@ -56,6 +56,12 @@ pub record Turned (look : Hand → Look) (h : Hand) (w : List ℕ) (nS nL moves 
   pub turns : look h ≡ again at
   pub holds : Holds at w nS nL moves
 
+-- One look, which cost one move: what Passing says holds again, and every hand that the words held has turned.
+pub record Looked (look : Hand → Look) (w : List ℕ) (nS nL moves : ℕ) (w′ : List ℕ) (nS′ nL′ moves′ : ℕ) : Type 0 where
+  pub passing : Passing w′ nS′ nL′ moves′
+  pub one-move : moves′ ≡ moves + 1
+  pub turned : (h : Hand) → Holds h w nS nL moves → Turned look h w′ nS′ nL′ moves′
+
 -- The published repeat from hand h ends, with the hand that the words hold then.
 pub record Ended (look : Hand → Look) (h : Hand) (w : List ℕ) (nS nL moves : ℕ) : Type 0 where
   pub at : Hand

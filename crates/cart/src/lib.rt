@@ -13,7 +13,7 @@ ghost use Rattle.figures.specs.Cart as Cart;
 ghost use Rattle.figures.specs.Request.{cartPolicy, missed};
 ghost use Rattle.entries.specs.Stretches.{Room, nameOf};
 ghost use Rattle.entries.specs.Answers.{Tells};
-ghost use Rattle.cart.specs.Passing.{Full, Passing, Holds, Turned, Ended, Opened, headFlags, oldestList};
+ghost use Rattle.cart.specs.Passing.{Full, Passing, Holds, Looked, Ended, Opened, headFlags, oldestList};
 use entries::lists;
 use entries::numbers;
 use entries::search;
@@ -111,7 +111,7 @@ fn turn(dir: &mut [u32], f: u32, kept: Kept) -> Kept
     requires { ⌜ Room (now dir) ⌝ }
     requires { ⌜ Passing (now dir) (kept .short .0) (kept .long .0) (kept .moves) ⌝ }
     requires { ⌜ (f ≡ headFlags (decode (now dir) .t1)) × (1 ≤ f) ⌝ }
-    ensures { λ r. ⌜ Passing (now (dir .exit)) (r .short .0) (r .long .0) (r .moves) × ((h : Hand) → Holds h (now (dir .entry)) (kept .short .0) (kept .long .0) (kept .moves) → Turned Cart.secondLook h (now (dir .exit)) (r .short .0) (r .long .0) (r .moves)) ⌝ }
+    ensures { λ r. ⌜ Looked Cart.secondLook (now (dir .entry)) (kept .short .0) (kept .long .0) (kept .moves) (now (dir .exit)) (r .short .0) (r .long .0) (r .moves) ⌝ }
 {
     let short = kept.short;
     let long = kept.long;

@@ -10,7 +10,7 @@ use Rattle.figures.specs.Choice.{if_then_else_, ∣_∣}
 use Rattle.figures.specs.Entry.{bits, differ}
 use Rattle.figures.specs.Directory.{unit, listed}
 use Rattle.figures.specs.Words.{encode, decode, size, nT1, nT2, nB1, nB2}
-use Rattle.figures.specs.Sound.{every, noneOf, car, carSound, cartSound, knownPolicy}
+use Rattle.figures.specs.Sound.{every, noneOf, car, carSound, cartSound, sound, knownPolicy}
 
 -- The words' number, policy and size are in order.
 pub record Orderly (w : List ℕ) : Type 0 where
@@ -44,3 +44,11 @@ entriesSound w =
     ∷ noneOf bits (decode w .b1 ++ decode w .b2)
     ∷ (if eqb (getD w 0 0) car then carSound w else cartSound w)
     ∷ [])
+
+-- The words of a sound directory, with the numbers that tell where its lists are.
+pub record Ready (w : List ℕ) : Type 0 where
+  pub is-sound : sound w ≡ true
+  pub length-is : ∣ w ∣ ≡ 8 + 4 * size w
+  pub c-most : size w ≤ 1024
+  pub cache-fits : nT1 w + nT2 w ≤ size w
+  pub history-fits : nB1 w + nB2 w ≤ size w

@@ -1,13 +1,14 @@
 // The public operations on a directory in lent words. Each is total: whatever is lent gets an answer, a refusal its number,
 // and a refused call changes no lent word. What each promises is in specs/Promises.
 ghost use mathlib.Core.Path.{_≡_};
-ghost use mathlib.Core.Bool.{Bool, true};
+ghost use mathlib.Core.Bool.{Bool};
 ghost use lib.ListN.{length, replicate};
 ghost use Rattle.figures.specs.Words.{decode};
-ghost use Rattle.figures.specs.Sound.{sound, knownPolicy, knownSize};
+ghost use Rattle.figures.specs.Sound.{knownPolicy, knownSize};
 ghost use Rattle.figures.specs.Request.{request};
 ghost use Rattle.entries.specs.Answers.{Tells};
 ghost use Rattle.directory.specs.Promises.{Freshened, Checked, Requested};
+ghost use Rattle.directory.specs.Orderly.{Ready};
 
 mod soundness;
 
@@ -88,8 +89,8 @@ pub fn check(dir: &[u32]) -> u32
 
 // One request of a sound directory, which it leaves sound: the step under requests and runs.
 fn serve(dir: &mut [u32], page: u32) -> entries::Served
-    requires { ⌜ sound (now dir) ≡ true ⌝ }
-    ensures { λ r. ⌜ Tells (request page (decode (now (dir .entry)))) (r .kind) (r .page) (r .list) (r .moves) (now (dir .exit)) × (sound (now (dir .exit)) ≡ true) ⌝ }
+    requires { ⌜ Ready (now dir) ⌝ }
+    ensures { λ r. ⌜ Tells (request page (decode (now (dir .entry)))) (r .kind) (r .page) (r .list) (r .moves) (now (dir .exit)) × Ready (now (dir .exit)) ⌝ }
 {
     let n1 = lists::wide(dir[4]);
     let n2 = lists::wide(dir[5]);

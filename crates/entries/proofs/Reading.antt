@@ -1,18 +1,19 @@
 -- Words that hold a list of entries, and what is read there: the page and the flags of an entry, the entries after it.
 -- Assumes nothing.
-use mathlib.Core.Path.{_≡_, refl, sym, _∙_}
-use mathlib.Core.List.{List, _∷_, _++_, append-assoc}
+use mathlib.Core.Path.{_≡_, refl, sym, ap, _∙_}
+use mathlib.Core.List.{List, [], _∷_, _++_, append-assoc, append-nil}
 use Prim.Native.Nat.{ℕ, zero, suc, _+_, _*_, _≤_, _<_}
 use native.Mathlib.Numerals.{add-one}
 use native.Mathlib.Omega.{arith}
 use lib.ListN.{length, take, drop, getD, length-append, take-append-drop}
 use lib.Seq.{length-take-le, drop-cons, getD-at, getD-append-add}
+use Rattle.figures.specs.Choice.{∣_∣}
 use Rattle.figures.specs.Entry.{Entry, newShort}
-use Rattle.figures.specs.Directory.{Directory, listOf}
+use Rattle.figures.specs.Directory.{Directory, listOf, listed}
 use Rattle.figures.specs.Words.{flags, words, zeros, encode}
 use Rattle.entries.specs.Stretches.{nameOf, startOf}
 use Rattle.figures.proofs.Encoding.{length-words, words-append}
-use Rattle.entries.proofs.Laid.{heads, header}
+use Rattle.entries.proofs.Laid.{heads, laid, header}
 
 -- The words w hold the list l from word a on.
 pub record Held (w : List ℕ) (a : ℕ) (l : List Entry) : Type 0 where
@@ -55,40 +56,29 @@ entry-at {w} {a} {l} h i fits =
     let there : Held w (a + 2 * i) (e ∷ drop (i + 1) l) = rw front at (held-from h i (omega arith)) in
     record { here = e; front = front; page-word = first-page there; flags-word = first-flags there }
 
--- The words of a directory hold each of its lists from its start on, and those of T1 and T2 together from word 8 on.
+-- The words of a directory hold any stretch of its listed entries,
 module _ (d : Directory) (w : List ℕ) (is : encode d ≡ w) where
-  pub list-held : (i : ℕ) → i ≤ 3 → Held w (startOf i w) (listOf (nameOf i) d)
-  list-held zero h = record {
-    before = heads d;
-    after = words (d .t2) ++ (words (d .b1) ++ (words (d .b2) ++ zeros d));
-    parts = sym is;
-    starts = refl;
+  pub stretch-held : (A l B : List Entry) → listed d ≡ A ++ (l ++ B) → (a : ℕ) → 8 + 2 * ∣ A ∣ ≡ a → Held w a l
+  stretch-held A l B cut a at = record {
+    before = heads d ++ words A;
+    after = words B ++ zeros d;
+    parts =
+    sym is ∙ laid d ∙ ap (λ (l : List Entry). heads d ++ (words l ++ zeros d)) cut ∙ simp (words-append, append-assoc);
+    starts = simp length-words (omega arith);
   }
-  list-held (suc zero) h = record {
-    before = heads d ++ words (d .t1);
-    after = words (d .b1) ++ (words (d .b2) ++ zeros d);
-    parts = sym is;
-    starts = omega (arith, header d w is, length-words (d .t1));
-  }
-  list-held (suc (suc zero)) h = record {
-    before = heads d ++ (words (d .t1) ++ words (d .t2));
-    after = words (d .b2) ++ zeros d;
-    parts = sym is ∙ simp append-assoc;
-    starts =
-        omega (arith, header d w is, length-append (words (d .t1)) (words (d .t2)), length-words (d .t1), length-words (d .t2));
-  }
-  list-held (suc (suc (suc zero))) h = record {
-    before = heads d ++ (words (d .t1) ++ (words (d .t2) ++ words (d .b1)));
-    after = zeros d;
-    parts = sym is ∙ simp append-assoc;
-    starts = simp (length-append, length-words) (omega (arith, header d w is));
-  }
-  list-held (suc (suc (suc (suc i)))) h = absurd (omega arith)
 
+  -- T1 and T2 together,
   pub cache-held : Held w 8 (d .t1 ++ d .t2)
-  cache-held = record {
-    before = heads d;
-    after = words (d .b1) ++ (words (d .b2) ++ zeros d);
-    parts = sym is ∙ simp (words-append, append-assoc);
-    starts = refl;
-  }
+  cache-held = stretch-held [] (d .t1 ++ d .t2) (d .b1 ++ d .b2) (simp append-assoc) 8 refl
+
+  -- and each list from its start on.
+  pub list-held : (i : ℕ) → i ≤ 3 → Held w (startOf i w) (listOf (nameOf i) d)
+  list-held zero h = stretch-held [] (d .t1) (d .t2 ++ (d .b1 ++ d .b2)) refl _ refl
+  list-held (suc zero) h =
+      stretch-held (d .t1) (d .t2) (d .b1 ++ d .b2) refl _ (omega (arith, header d w is))
+  list-held (suc (suc zero)) h =
+      stretch-held (d .t1 ++ d .t2) (d .b1) (d .b2) (simp append-assoc) _ (simp length-append (omega (arith, header d w is)))
+  list-held (suc (suc (suc zero))) h =
+      stretch-held (d .t1 ++ (d .t2 ++ d .b1)) (d .b2) [] (simp (append-assoc, append-nil)) _
+      (simp length-append (omega (arith, header d w is)))
+  list-held (suc (suc (suc (suc i)))) h = absurd (omega arith)

@@ -9,7 +9,7 @@ use lib.ListN.{length-append}
 use lib.Dec.{eqb}
 use borrow.Author.Tests.{eq-eqb}
 use Rattle.figures.specs.Choice.{if_then_else_, ∣_∣}
-use Rattle.figures.specs.Entry.{Entry, Filter, marked, total, has, mark, without, dropHead}
+use Rattle.figures.specs.Entry.{Entry, Filter, marked, total, has, mark, without, dropHead, S, L, shortOf, longOf, short, long}
 
 -- What each outcome of a test gives holds of the choice by it; of a choice by two tests, likewise.
 pub by-test : {A : Type 0} (P : A → Type 0) (b : Bool) {x y : A} → (b ≡ true → P x) → (b ≡ false → P y) → P (if b then x else y)
@@ -170,3 +170,12 @@ module _ (x : ℕ) where
           → (if b then 1 else 0) + total (is x) l ≡ total (is x) (if b then l else e ∷ without x l) + 1
       go true s h i = omega arith
       go false s h i = let j = i h in let k : is x e ≡ 0 = ap (λ (b : Bool). if b then 1 else 0) s in omega arith
+
+-- Each entry is S or L.
+short-or-long : (f : Filter) → shortOf f + longOf f ≡ 1
+short-or-long S = refl
+short-or-long L = refl
+
+pub short-and-long : (l : List Entry) → total short l + total long l ≡ ∣ l ∣
+short-and-long [] = refl
+short-and-long (e ∷ l) = omega (arith, short-or-long (e .filter), short-and-long l)
