@@ -1,0 +1,80 @@
+-- A request as the definition has it for every input: refused as the check refuses, else served.
+-- Assumes nothing.
+use mathlib.Core.Path.{_≡_, refl, sym, ap, _∙_, subst⁻¹}
+use mathlib.Core.Bool.{Bool, true, false, not}
+use mathlib.Core.List.{List}
+use Prim.Native.Nat.{ℕ, _+_, _*_, _≤_}
+use native.Mathlib.Omega.{arith}
+use lib.ListN.{getD}
+use lib.Dec.{ltb, eqb}
+use borrow.Author.Tests.{eq-eqb, ne-eqb}
+use Rattle.figures.specs.Choice.{if_then_else_, ∣_∣}
+use Rattle.figures.specs.Words.{encode, decode, size}
+use Rattle.figures.specs.Sound.{knownPolicy, knownSize, exactLength, sound}
+use Rattle.figures.specs.Request.{request}
+use Rattle.figures.specs.Refusals.{checkNumber, onCheck, onRequest, Answered, refusedRequest, servedRequest}
+use Rattle.figures.specs.Demands.{mostMoves}
+use Rattle.figures.proofs.Lists.{either}
+use Rattle.figures.proofs.Encoding.{encode-decode}
+use Rattle.figures.proofs.Moves.{request-moves-at-most}
+use Rattle.entries.specs.Answers.{Tells}
+use Rattle.directory.specs.declared.Answer.{Answer}
+use Rattle.directory.specs.Promises.{Requested}
+
+-- Only a sound directory is accepted.
+pub accepted-sound : (w : List ℕ) → onCheck w .number ≡ 0 → sound w ≡ true
+unfolding onCheck checkNumber
+accepted-sound w = go (ltb ∣ w ∣ 8) (knownPolicy (getD w 0 0)) (knownSize (size w)) (exactLength w) (sound w)
+  where
+    go : (short policy sized exact sounds : Bool)
+        → _≡_ {A = ℕ} (if short then 3 else if not policy then 1 else if not sized then 2 else if not exact then 3 else if not sounds then 4 else 0) 0
+        → sounds ≡ true
+    go true policy sized exact sounds is = absurd (omega arith)
+    go false false sized exact sounds is = absurd (omega arith)
+    go false true false exact sounds is = absurd (omega arith)
+    go false true true false sounds is = absurd (omega arith)
+    go false true true true false is = absurd (omega arith)
+    go false true true true true is = refl
+
+module _ (w : List ℕ) (x n : ℕ) (number : n ≡ onCheck w .number) where
+  refused : (n ≡ 0 → ⊥) → onRequest w x ≡ refusedRequest n w
+  unfolding onRequest onCheck
+  refused some =
+      ap (λ (b : Bool). if b then servedRequest (request x (decode w)) else refusedRequest (checkNumber w) w)
+      (ne-eqb (checkNumber w) 0 (λ none. some (number ∙ none)))
+      ∙ ap (λ (m : ℕ). refusedRequest m w) (sym number)
+
+  served : n ≡ 0 → onRequest w x ≡ servedRequest (request x (decode w))
+  unfolding onRequest onCheck
+  served none =
+      ap (λ (b : Bool). if b then servedRequest (request x (decode w)) else refusedRequest (checkNumber w) w)
+      (eq-eqb (checkNumber w) 0 (sym number ∙ none))
+
+  pub requested-refused : (n ≡ 0 → ⊥) → Requested w x (record { number = n; kind = 0; page = 0; list = 0; moves = 0 }) w
+  requested-refused some =
+      let e = sym (refused some) in
+      record {
+        number-is = ap (λ (a : Answered). a .number) e;
+        kind-is = ap (λ (a : Answered). a .kind) e;
+        page-is = ap (λ (a : Answered). a .page) e;
+        list-is = ap (λ (a : Answered). a .list) e;
+        moves-is = ap (λ (a : Answered). a .moves) e;
+        words-are = ap (λ (a : Answered). a .words) e;
+        moves-at-most = omega arith;
+      }
+
+  pub requested-served : n ≡ 0 → (kind page list moves : ℕ) (w′ : List ℕ) → Tells (request x (decode w)) kind page list moves w′
+      → Requested w x (record { number = 0; kind = kind; page = page; list = list; moves = moves }) w′
+  requested-served none kind page list moves w′ t =
+      let e = sym (served none) in
+      let is-sound = accepted-sound w (sym number ∙ none) in
+      let d-sound = subst⁻¹ (λ (l : List ℕ). sound l ≡ true) (encode-decode w is-sound) is-sound in
+      record {
+        number-is = ap (λ (a : Answered). a .number) e;
+        kind-is = t .kind-is ∙ ap (λ (a : Answered). a .kind) e;
+        page-is = t .page-is ∙ ap (λ (a : Answered). a .page) e;
+        list-is = t .list-is ∙ ap (λ (a : Answered). a .list) e;
+        moves-is = t .moves-is ∙ ap (λ (a : Answered). a .moves) e;
+        words-are = t .words-are ∙ ap (λ (a : Answered). a .words) e;
+        moves-at-most = omega (arith, t .moves-is, request-moves-at-most x (decode w) d-sound);
+      }

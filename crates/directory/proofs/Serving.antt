@@ -1,0 +1,131 @@
+-- One request of a sound directory in the words: what each way through `serve` comes to.
+-- Assumes nothing.
+use mathlib.Core.Path.{_≡_, refl, sym, ap, _∙_, subst, subst⁻¹}
+use mathlib.Core.Bool.{Bool, true, false, _||_}
+use mathlib.Core.List.{List, [], _∷_, _++_}
+use Prim.Native.Nat.{ℕ, _+_, _*_, _≤_, _<_}
+use native.Mathlib.Omega.{arith}
+use lib.ListN.{length, getD, length-append}
+use lib.Dec.{eqb}
+use borrow.Author.Tests.{eqb-true, eq-eqb, ne-eqb}
+use Rattle.figures.specs.Choice.{if_then_else_, ∣_∣}
+use Rattle.figures.specs.Entry.{Entry, has}
+use Rattle.figures.specs.Directory.{Directory, placeNew, cached}
+use Rattle.figures.specs.Words.{encode, decode, size, nT1, nT2}
+use Rattle.figures.specs.Sound.{sound, car, cart}
+use Rattle.figures.specs.Request.{Policy, carPolicy, cartPolicy, policyOf, Served, still, hit, missed, request}
+use Rattle.figures.proofs.Lists.{either}
+use Rattle.figures.proofs.Encoding.{encode-decode, words-fit}
+use Rattle.figures.proofs.Soundness.{facts-of-words}
+use Rattle.figures.proofs.Requests.{serve-hit, serve-room, serve-full}
+use Rattle.figures.proofs.Kept.{request-keeps}
+use Rattle.entries.specs.Answers.{Tells}
+use Rattle.entries.specs.Stretches.{Room, index}
+use Rattle.entries.proofs.Laid.{Header, header}
+use Rattle.entries.proofs.Reading.{cache-held}
+use Rattle.entries.proofs.Indexes.{index-has, index-lacks, roomy}
+use Rattle.entries.proofs.Searching.{Found}
+use Rattle.directory.specs.Orderly.{Ready}
+
+pub ready : (w : List ℕ) → sound w ≡ true → Ready w
+ready w is-sound =
+    let d = decode w in
+    let is = encode-decode w is-sound in
+    let s = facts-of-words w is-sound .shared in
+    let h = header d w is in
+    let n = words-fit d (omega (arith, s .cache-fits, s .history-fits)) in
+    let m = ap (λ (l : List ℕ). ∣ l ∣) is in
+    record {
+      is-sound = is-sound;
+      length-is = omega arith;
+      c-most = omega (arith, s .c-most);
+      cache-fits = omega (arith, s .cache-fits);
+      history-fits = omega (arith, s .history-fits);
+    }
+
+has-append : (x : ℕ) (a b : List Entry) → has x (a ++ b) ≡ has x a || has x b
+has-append x [] b = refl
+has-append x (e ∷ a) b = go (eqb (e .page) x) (has-append x a b)
+  where
+    go : (t : Bool) → has x (a ++ b) ≡ has x a || has x b → (if t then true else has x (a ++ b)) ≡ (if t then true else has x a) || has x b
+    go true h = refl
+    go false h = h
+
+module _ {w : List ℕ} (r : Ready w) where
+  abbrev d : Directory
+  d = decode w
+
+  pub words-held : encode d ≡ w
+  words-held = encode-decode w (r .is-sound)
+
+  held : Header d w
+  held = header d w words-held
+
+  pub room : Room w
+  room = subst Room words-held (roomy d (omega (arith, held, r)) (omega (arith, held, r)))
+
+  -- the policy that it names
+  pub names-car : getD w 0 0 ≡ car → policyOf (d .policy) ≡ carPolicy
+  names-car is = ap (λ (b : Bool). if b then carPolicy else cartPolicy) (eq-eqb (d .policy) car (omega (arith, held)))
+
+  pub names-cart : (getD w 0 0 ≡ car → ⊥) → policyOf (d .policy) ≡ cartPolicy
+  names-cart is-not = ap (λ (b : Bool). if b then carPolicy else cartPolicy) (ne-eqb (d .policy) car (λ is. is-not (held .policy ∙ is)))
+
+  pub other-is-cart : (getD w 0 0 ≡ car → ⊥) → getD w 0 0 ≡ cart
+  other-is-cart is-not =
+      held .policy
+      ∙ eqb-true (d .policy) cart
+      (ap (λ (b : Bool). b || eqb (d .policy) cart) (sym (ne-eqb (d .policy) car (λ is. is-not (held .policy ∙ is))))
+      ∙ facts-of-words w (r .is-sound) .known)
+
+  -- a request leaves it sound
+  pub ready-again : (x : ℕ) (w′ : List ℕ) → w′ ≡ encode (request x d .dir) → Ready w′
+  ready-again x w′ is =
+      ready w′ (subst⁻¹ (λ (l : List ℕ). sound l ≡ true) is (request-keeps x d (subst⁻¹ (λ (l : List ℕ). sound l ≡ true) words-held (r .is-sound)) .sound-again))
+
+  -- by what the request comes to
+  module _ (x : ℕ) (w′ : List ℕ) where
+    tells-as : {s : Served} → request x d ≡ s → w′ ≡ encode (s .dir)
+        → Tells (request x d) (s .kind) (s .page) (s .list) (s .moves) w′ × Ready w′
+    tells-as {s} e are =
+        let words′ = are ∙ ap (λ (s : Served). encode (s .dir)) (sym e) in (
+          record {
+            kind-is = sym (ap (λ (s : Served). s .kind) e);
+            page-is = sym (ap (λ (s : Served). s .page) e);
+            list-is = sym (ap (λ (s : Served). s .list) e);
+            moves-is = sym (ap (λ (s : Served). s .moves) e);
+            words-are = words′;
+          },
+          ready-again x w′ words′,
+        )
+
+    -- the page's place in T1 and T2, as `find` gives it
+    module _ (n k : ℕ) (found : Found w 8 n x k) (all : n ≡ nT1 w + nT2 w) where
+      pub place : k ≡ index x (d .t1 ++ d .t2)
+      place =
+          let there = cache-held d w words-held in
+          found (there .before) (there .after) (d .t1 ++ d .t2) (there .parts) (there .starts) (length-append (d .t1) (d .t2) ∙ omega (arith, held))
+
+      pub tells-hit : k < n → w′ ≡ encode (hit x d) → Tells (request x d) 0 0 0 0 w′ × Ready w′
+      tells-hit inside are =
+          let there = index-has x (d .t1 ++ d .t2) (omega (arith, place, length-append (d .t1) (d .t2), held)) in
+          tells-as (serve-hit (policyOf (d .policy)) x d (sym (has-append x (d .t1) (d .t2)) ∙ there)) are
+
+      missed-cache : n ≤ k → has x (d .t1) || has x (d .t2) ≡ false
+      missed-cache outside =
+          sym (has-append x (d .t1) (d .t2)) ∙ index-lacks x (d .t1 ++ d .t2) (omega (arith, place, length-append (d .t1) (d .t2), held))
+
+      pub tells-room : n ≤ k → n < size w → w′ ≡ encode (placeNew x d) → Tells (request x d) 1 0 0 0 w′ × Ready w′
+      tells-room outside free are =
+          tells-as (serve-room (policyOf (d .policy)) x d (missed-cache outside) (ne-eqb (cached d) (d .c) (λ e. omega (arith, held)))
+          ∙ either (λ (π : Policy). still 1 (π .placeNew x d) ≡ still 1 (placeNew x d)) (eqb (d .policy) 1) refl refl) are
+
+      pub tells-full : (π : Policy) → policyOf (d .policy) ≡ π → n ≤ k → size w ≤ n → {kind page list moves : ℕ}
+          → Tells (missed π x (π .evict d)) kind page list moves w′ → Tells (request x d) kind page list moves w′ × Ready w′
+      tells-full π named outside full {kind} {page} {list} {moves} t =
+          let comes-to : request x d ≡ missed π x (π .evict d) =
+          serve-full (policyOf (d .policy)) x d (missed-cache outside) (eq-eqb (cached d) (d .c) (omega (arith, held, r .cache-fits)))
+          ∙ ap (λ (π : Policy). missed π x (π .evict d)) named in (
+            subst⁻¹ (λ (s : Served). Tells s kind page list moves w′) comes-to t,
+            ready-again x w′ (t .words-are ∙ ap (λ (s : Served). encode (s .dir)) (sym comes-to)),
+          )

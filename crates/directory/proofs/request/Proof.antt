@@ -1,0 +1,38 @@
+use mathlib.Core.Path.{sym, _∙_}
+use native.Mathlib.Omega.{arith}
+use borrow.Author.Needs.{needs}
+use Rattle.directory.proofs.Serving.{ready}
+use Rattle.directory.proofs.Requesting.{accepted-sound, requested-refused, requested-served}
+use Rattle.directory.proofs.request.Statement.{statement}
+use Rattle.directory.proofs.request.Tie as tie
+use Rattle.directory.proofs.request.Reads as reads
+use Rattle.directory.proofs.request.Lts as lts
+use Rattle.directory.proofs.check.Reads as check-reads
+use Rattle.directory.proofs.serve.Reads as serve-reads
+
+check-requires : tie.Need-check-requires
+check-requires c κs = search needs
+
+same-length : tie.Need-same-length
+same-length c = search needs
+
+returns : tie.Need-returns
+returns c =
+    let s = c .before .before .before .before in
+    requested-refused (s .args .dir .now) (s .args .page) _ (c .before .check .ensures .number-is) (λ none. omega arith)
+
+serve-requires : tie.Need-serve-requires
+serve-requires c κs =
+    ready _ (accepted-sound (c .before .before .before .before .before .args .dir .now) (sym (c .before .before .check .ensures .number-is) ∙ omega arith))
+
+same-length-2 : tie.Need-same-length-2
+same-length-2 c = search needs
+
+returns-2 : tie.Need-returns-2
+returns-2 c =
+    let s = c .before .before .before .before .before .before .before .before in
+    requested-served (s .args .dir .now) (s .args .page) _ (c .before .before .before .before .before .check .ensures .number-is) (omega arith) _ _ _ _ _ (c .before .before .serve .ensures .0)
+
+pub request-spec : {M : Type 1} → statement M
+request-spec =
+    tie.close (tie.spec check-requires same-length returns serve-requires same-length-2 returns-2)
