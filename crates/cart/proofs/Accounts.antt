@@ -32,6 +32,7 @@ short-head : (l : List Entry) → 1 ≤ ∣ l ∣ → headFlags l ≤ 1 → 1 �
 short-head [] some h = absurd (omega arith)
 short-head (e ∷ l) some h = omega (arith, short-or-long (e .filter))
 
+-- What Passing says, of a directory.
 pub record Accounts (d : Directory) (nS nL moves : ℕ) : Type 0 where
   pub c-least : 1 ≤ d .c
   pub c-most : d .c ≤ 1024
@@ -68,6 +69,7 @@ passing d {w} is a =
       left = rw same (a .left);
     }
 
+-- What the code's steps need of words that are Passing.
 pub passing-room : {w : List ℕ} {nS nL moves : ℕ} → Passing w nS nL moves → Room w
 passing-room {w} p = let a = accounts p in rw (p .is) at (roomy (decode w) (omega arith) (omega arith))
 
@@ -86,6 +88,7 @@ short-counted {w} p some h = let r = read (decode w) (p .is) in omega (arith, sh
 pub long-counted : {w : List ℕ} {nS nL moves : ℕ} → Passing w nS nL moves → 1 ≤ nT2 w → 1 ≤ nL
 long-counted {w} p some = omega (arith, read (decode w) (p .is), shorts-and-longs (decode w .t2))
 
+-- The moves, and the changes of q.
 module _ (d : Directory) {nS nL moves : ℕ} where
   -- T2's head, its bit set, to T1's tail.
   pub t2-to-t1 : (x : ℕ) (f : Filter) (es : List Entry) → let e = entryOf x true f in

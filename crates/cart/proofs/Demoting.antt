@@ -37,13 +37,16 @@ module _ {w w₁ : List ℕ} {nS nL moves : ℕ} (h : Hand) (holds : Holds h w n
       let a = head-at 0 d is (omega arith) (omega arith) in
       let test = le-leb (max unit (d .p)) (unit * ∣ d .t1 ∣) (omega arith) in
       let flags-0 : 0 ≡ flags (a .head) = sym clear ∙ ap (λ (d : Directory). headFlags (d .t1)) (held-by d is) ∙ ap headFlags (a .front) in
-      rw (from-t1 h (a .head) (a .rest) test (a .front))
-      (a .page-word, refl, record {
-        words-are = sym (moved d (a .head) (a .head) (a .rest) is (a .front) refl flags-0);
-        short-is = ap (λ (n : ℕ). n - 1) (holds .short-is);
-        long-is = holds .long-is;
-        moves-is = ap (λ (n : ℕ). n + 1) (holds .moves-is);
-      })
+      rw (from-t1 h (a .head) (a .rest) test (a .front)) (
+        a .page-word,
+        refl,
+        record {
+          words-are = sym (moved d (a .head) (a .head) (a .rest) is (a .front) refl flags-0);
+          short-is = ap (λ (n : ℕ). n - 1) (holds .short-is);
+          long-is = holds .long-is;
+          moves-is = ap (λ (n : ℕ). n + 1) (holds .moves-is);
+        },
+      )
 
   pub demotes-t2 : (at : ℕ) → at ≡ startOf 1 w → 1 ≤ nT2 w → unit * nT1 w < max unit (getD w 2 0) → HeadMoved 1 3 (getD w (at + 1) 0) w w₁
       → (getD w at 0 ≡ demotion h .page) × (2 ≡ demotion h .list) × Holds (demotion h) w₁ nS (nL - 1) (moves + 1)
@@ -53,10 +56,13 @@ module _ {w w₁ : List ℕ} {nS nL moves : ℕ} (h : Hand) (holds : Holds h w n
       let r = read d is in
       let a = head-at 1 d is (omega arith) (omega arith) in
       let test = lt-leb (max unit (d .p)) (unit * ∣ d .t1 ∣) (omega arith) in
-      rw (from-t2 h (a .head) (a .rest) test (a .front))
-      (ap (λ (n : ℕ). getD w n 0) start ∙ a .page-word, refl, record {
-        words-are = sym (moved d (a .head) (a .head) (a .rest) is (a .front) refl (ap (λ (n : ℕ). getD w (n + 1) 0) start ∙ a .flags-word));
-        short-is = holds .short-is;
-        long-is = ap (λ (n : ℕ). n - 1) (holds .long-is);
-        moves-is = ap (λ (n : ℕ). n + 1) (holds .moves-is);
-      })
+      rw (from-t2 h (a .head) (a .rest) test (a .front)) (
+        ap (λ (n : ℕ). getD w n 0) start ∙ a .page-word,
+        refl,
+        record {
+          words-are = sym (moved d (a .head) (a .head) (a .rest) is (a .front) refl (ap (λ (n : ℕ). getD w (n + 1) 0) start ∙ a .flags-word));
+          short-is = holds .short-is;
+          long-is = ap (λ (n : ℕ). n - 1) (holds .long-is);
+          moves-is = ap (λ (n : ℕ). n + 1) (holds .moves-is);
+        },
+      )

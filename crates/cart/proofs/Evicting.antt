@@ -1,7 +1,6 @@
 -- The evict part from a full directory: its counts at the start, and that the code's two passes end where the definition's do.
 -- Assumes nothing.
 use mathlib.Core.Path.{_≡_, refl, sym, _∙_, subst}
-use mathlib.Core.Bool.{Bool, true, false}
 use mathlib.Core.List.{List, _++_, append-assoc}
 use Prim.Native.Nat.{ℕ, _+_, _-_, _≤_}
 use native.Mathlib.Omega.{arith}
@@ -9,10 +8,10 @@ use lib.ListN.{length, length-append}
 use lib.Dec.{eqb}
 use Rattle.figures.specs.Choice.{if_then_else_}
 use Rattle.figures.specs.Entry.{Entry, bits, long, total}
-use Rattle.figures.specs.Directory.{Directory, cached, inCache}
+use Rattle.figures.specs.Directory.{cached, inCache}
 use Rattle.figures.specs.Words.{words, zeros, nT1, nT2, encode, decode}
 use Rattle.figures.specs.Sound.{car, cart}
-use Rattle.figures.specs.Hand.{Hand}
+use Rattle.figures.specs.Hand.{Hand, Look, Ends}
 use Rattle.figures.specs.Cart.{cost, firstLook, secondLook, firstPass, secondPass, counted}
 use Rattle.figures.proofs.Lists.{either, total-append, total-at-most}
 use Rattle.figures.proofs.Facts.{Shared, CarFacts, CartFacts}
@@ -81,17 +80,16 @@ module _ {w : List ℕ} (f : Full w) (longs : ℕ) (counts : Counts w (nT1 w + n
       passing d (a .is)
       (omega (arith, shorts-and-longs (d .t1), shorts-and-longs (d .t2), total-at-most cost 2 cost-at-most (d .t1), total-at-most bits 1 bits-at-most (d .t2)))
 
--- Where the passes end.
-module _ {w w₁ w₂ : List ℕ} {nS nL nS₁ nL₁ moves₁ nS₂ nL₂ moves₂ : ℕ} where
-  pub passes-end : Full w → Passing w nS nL 0
-      → ((h : Hand) → Holds h w nS nL 0 → Ended firstLook h w₁ nS₁ nL₁ moves₁)
-      → ((h : Hand) → Holds h w₁ nS₁ nL₁ moves₁ → Ended secondLook h w₂ nS₂ nL₂ moves₂)
-      → Holds (secondPass (firstPass (counted (decode w)))) w₂ nS₂ nL₂ moves₂
-  passes-end f p first second =
-      let a = full-facts f in
-      let stops = cart-stops (decode w) (a .shared) (a .own) (a .full) in
-      let one = first (counted (decode w)) (record { words-are = p .is; short-is = p .shorts; long-is = p .longs; moves-is = refl }) in
-      let same-one = ends-once (one .ends) (stops .first) in
-      let two = second (firstPass (counted (decode w))) (rw same-one at (one .holds)) in
-      let same-two = ends-once (two .ends) (stops .second) in
-      rw same-two at (two .holds)
+-- The code's repeat and the definition's end at one hand.
+ended-at : {look : Hand → Look} {h z : Hand} {w : List ℕ} {nS nL moves : ℕ} → Ends look h z → Ended look h w nS nL moves → Holds z w nS nL moves
+ended-at ends e = rw (ends-once (e .ends) ends) at (e .holds)
+
+pub passes-end : {w w₁ w₂ : List ℕ} {nS nL nS₁ nL₁ moves₁ nS₂ nL₂ moves₂ : ℕ} → Full w → Passing w nS nL 0
+    → ((h : Hand) → Holds h w nS nL 0 → Ended firstLook h w₁ nS₁ nL₁ moves₁)
+    → ((h : Hand) → Holds h w₁ nS₁ nL₁ moves₁ → Ended secondLook h w₂ nS₂ nL₂ moves₂)
+    → Holds (secondPass (firstPass (counted (decode w)))) w₂ nS₂ nL₂ moves₂
+passes-end {w} {nS = nS} {nL = nL} f p first second =
+    let a = full-facts f in
+    let stops = cart-stops (decode w) (a .shared) (a .own) (a .full) in
+    let begins : Holds (counted (decode w)) w nS nL 0 = record { words-are = p .is; short-is = p .shorts; long-is = p .longs; moves-is = refl } in
+    ended-at (stops .second) (second _ (ended-at (stops .first) (first (counted (decode w)) begins)))

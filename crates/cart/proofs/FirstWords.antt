@@ -19,6 +19,7 @@ use Rattle.entries.proofs.Laid.{heads, length-of-list}
 use Rattle.entries.proofs.Reading.{Held, held, entry-at}
 use Rattle.cart.specs.Passing.{headFlags}
 
+-- The words of the sizes and targets.
 pub record Read (d : Directory) (w : List ℕ) : Type 0 where
   pub c-is : size w ≡ d .c
   pub p-is : getD w 2 0 ≡ d .p
@@ -43,7 +44,7 @@ module _ (d : Directory) {w : List ℕ} (is : encode d ≡ w) where
   with-q : (q q′ : ℕ) → q ≡ q′ → set w 3 q ≡ encode (withQ q′ d)
   with-q q q′ same = ap (λ (l : List ℕ). set l 3 q) (sym is) ∙ ap (λ (n : ℕ). encode (withQ n d)) same
 
-  -- The test of "raise q" and line 30's, on the words.
+  -- What "raise q", line 33 and line 30's test come to, on the words.
   pub raised : (nS q : ℕ) → size w ≤ nT2 w + nB2 w + nT1 w - nS → q ≡ min (getD w 3 0 + 1) (2 * size w - nT1 w)
       → set w 3 q ≡ encode (raise nS d)
   raised nS q taken least =
@@ -98,7 +99,6 @@ no-flags (e ∷ l) h = absurd (omega arith)
 module _ (i : ℕ) (d : Directory) {w : List ℕ} (is : encode d ≡ w) (known : i ≤ 3) where
   pub head-at : 1 ≤ getD w (4 + i) 0 → HeadAt i d w
   head-at some =
-      let l = listOf (nameOf i) d in
       let there = rw is at (list-held i d known) in
       let e = entry-at there 0 (omega (arith, length-of-list i d w is known)) in
       record {

@@ -6,8 +6,8 @@ use mathlib.Core.List.{List, [], _∷_, _++_}
 use Prim.Native.Nat.{ℕ, _+_, _-_, _*_, _%_, _≤_, min}
 use native.Mathlib.Omega.{arith}
 use lib.Dec.{leb}
-use Rattle.figures.specs.Choice.{if_then_else_, ∣_∣}
-use Rattle.figures.specs.Entry.{Entry, Filter, S, L, cleared, madeLong, longOf}
+use Rattle.figures.specs.Choice.{∣_∣}
+use Rattle.figures.specs.Entry.{Entry, Filter, S, L, cleared, madeLong}
 use Rattle.figures.specs.Directory.{Directory, unit, Name, T1, T2, listOf, withList, toTail}
 use Rattle.figures.specs.Words.{flags, encode, decode}
 use Rattle.figures.specs.Hand.{Hand, Look, again, stop}
@@ -38,9 +38,9 @@ abbrev pub Tested : Bool → List ℕ → Type 0
 Tested b w = (d : Directory) → encode d ≡ w → b ≡ becomesLong d
 
 -- T1 is as long after the head has moved to its tail.
-tested : (d : Directory) (x : ℕ) (k : Filter) (es : List Entry)
+test-after-move : (d : Directory) (x : ℕ) (k : Filter) (es : List Entry)
     → becomesLong (withList T1 (es ++ (entryOf x false k ∷ [])) d) ≡ becomesLong (withList T1 (entryOf x true k ∷ es) d)
-tested d x k es =
+test-after-move d x k es =
     ap (λ (n : ℕ). leb (min (d .p + unit) (unit * ∣ d .b1 ∣)) (unit * n)) (length-tail es (entryOf x false k) ∙ omega arith)
 
 -- A move after which q changes: what holds between the two, and what both make together.
@@ -53,7 +53,7 @@ abbrev handOf : Directory → ℕ → ℕ → ℕ → ℕ → ℕ → ℕ → Ha
 handOf d nS nL moves cleared page list =
     record { dir = d; nS = nS; nL = nL; moves = moves; cleared = cleared; page = page; list = list }
 
-pub every-hand : (d : Directory) {w : List ℕ} {nS nL moves : ℕ} (P : Hand → Type 0) → encode d ≡ w
+every-hand : (d : Directory) {w : List ℕ} {nS nL moves : ℕ} (P : Hand → Type 0) → encode d ≡ w
     → ((cleared page list : ℕ) → P (handOf d nS nL moves cleared page list)) → (h : Hand) → Holds h w nS nL moves → P h
 every-hand d {w} {nS} {nL} {moves} P is p h holds =
     let same-dir = one-to-one d (h .dir) (is ∙ sym (holds .words-are)) in
@@ -131,7 +131,7 @@ module _ (d : Directory) {w w₁ : List ℕ} {nS nL moves f : ℕ} where
       let d₀ = withList T1 (e ∷ es) d in
       let d₁ = withList T1 (es ++ (cleared e ∷ [])) d in
       let is₁ : encode d₁ ≡ w₁ = sym (moved d₀ e (cleared e) es (h .is) refl refl (omega arith)) in
-      let test = tested d x S es ∙ sym (short (omega arith) d₀ (h .is)) in
+      let test = test-after-move d x S es ∙ sym (short (omega arith) d₀ (h .is)) in
       looks d₀ d₁ 1 (h .is) is₁ (t1-round d x S S es nS nL refl refl (h .accounts)) (λ cleared page list. rw test)
   goes-round x true L es h odd short moved =
       let e = entryOf x true L in
@@ -149,7 +149,7 @@ module _ (d : Directory) {w w₁ : List ℕ} {nS nL moves f : ℕ} where
       let d₀ = withList T1 (e ∷ es) d in
       let d₁ = withList T1 (es ++ (madeLong (cleared e) ∷ [])) d in
       let is₁ : encode d₁ ≡ w₁ = sym (moved d₀ e (madeLong (cleared e)) es (h .is) refl refl refl) in
-      let test = tested d x S es ∙ sym (long d₀ (h .is)) in
+      let test = test-after-move d x S es ∙ sym (long d₀ (h .is)) in
       looks d₀ d₁ 1 (h .is) is₁ (t1-round d x S L es (nS - 1) (nL + 1) (omega arith) (omega arith) (h .accounts)) (λ cleared page list. rw test)
 
 -- What the code's moves make of words that are Passing.

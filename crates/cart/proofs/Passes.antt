@@ -22,10 +22,12 @@ module _ {look : Hand → Look} {w₀ : List ℕ} {nS₀ nL₀ moves₀ : ℕ} w
 
   pub goes-on : {w w′ : List ℕ} {nS nL moves nS′ nL′ moves′ : ℕ} → Underway look w₀ nS₀ nL₀ moves₀ w nS nL moves
       → Looked look w nS nL moves w′ nS′ nL′ moves′ → Underway look w₀ nS₀ nL₀ moves₀ w′ nS′ nL′ moves′
-  goes-on u l = record { reached = λ h holds.
-      let r = u .reached h holds in
-      let t = l .turned (r .at) (r .holds) in
-      record { at = t .at; rest = λ z ends. r .rest z (next (t .turns) ends); holds = t .holds } }
+  goes-on u l = record {
+    reached = λ h holds.
+        let r = u .reached h holds in
+        let t = l .turned (r .at) (r .holds) in
+        record { at = t .at; rest = λ z ends. r .rest z (next (t .turns) ends); holds = t .holds };
+  }
 
   pub ends-here : {w : List ℕ} {nS nL moves : ℕ} → Underway look w₀ nS₀ nL₀ moves₀ w nS nL moves
       → ((h : Hand) → Holds h w nS nL moves → look h ≡ stop h)

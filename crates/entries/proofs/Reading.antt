@@ -63,7 +63,7 @@ module _ (d : Directory) (w : List ℕ) (is : encode d ≡ w) where
     before = heads d ++ words A;
     after = words B ++ zeros d;
     parts =
-    sym is ∙ laid d ∙ ap (λ (l : List Entry). heads d ++ (words l ++ zeros d)) cut ∙ simp (words-append, append-assoc);
+        sym is ∙ laid d ∙ ap (λ (l : List Entry). heads d ++ (words l ++ zeros d)) cut ∙ simp (words-append, append-assoc);
     starts = simp length-words (omega arith);
   }
 

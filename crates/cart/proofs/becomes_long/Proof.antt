@@ -1,10 +1,8 @@
+-- The words that line 30 reads are p and the sizes of B1 and T1.
 use borrow.Author.Needs.{needs}
 use Rattle.cart.proofs.FirstWords.{becomes-long-read}
 use Rattle.cart.proofs.becomes_long.Statement.{statement}
 use Rattle.cart.proofs.becomes_long.Tie as tie
-use Rattle.cart.proofs.becomes_long.Reads as reads
-use Rattle.cart.proofs.becomes_long.Lts as lts
-use Rattle.entries.proofs.numbers.least.Reads as least-reads
 
 shared-slice-read-p : tie.Need-shared-slice-read-p
 shared-slice-read-p c = search needs

@@ -1,14 +1,10 @@
+-- The test is the definition's. T1's head is S, since its flags are 0, and T2's is L; T2 has one where T1 is under target, since the cache is full.
 use borrow.Author.Needs.{needs}
 use native.Mathlib.Omega.{arith}
 use Rattle.cart.proofs.Accounts.{short-counted, long-counted}
 use Rattle.cart.proofs.Demoting.{demotes-t1, demotes-t2}
 use Rattle.cart.proofs.demote.Statement.{statement}
 use Rattle.cart.proofs.demote.Tie as tie
-use Rattle.cart.proofs.demote.Reads as reads
-use Rattle.cart.proofs.demote.Lts as lts
-use Rattle.entries.proofs.lists.move_head.Reads as move-head-reads
-use Rattle.entries.proofs.lists.start_of.Reads as start-of-reads
-use Rattle.entries.proofs.numbers.greatest.Reads as greatest-reads
 
 add-moves : tie.Need-add-moves
 add-moves c = search needs

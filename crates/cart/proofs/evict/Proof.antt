@@ -1,3 +1,4 @@
+-- The counts at the start are those of T1 and T2, both passes end at the definition's hands, and the demotion is of the last one.
 use borrow.Author.Needs.{needs}
 use mathlib.Core.Path.{sym, _∙_}
 use Prim.Native.Nat.{_+_, _-_}
@@ -6,16 +7,9 @@ use Rattle.figures.specs.Words.{nT1, nT2}
 use Rattle.figures.specs.Cart.{evict}
 use Rattle.cart.specs.Passing.{Passing}
 use Rattle.cart.proofs.Accounts.{passing-room}
-use Rattle.cart.proofs.Evicting.{full-facts, full-room, begins-passing, passes-end}
+use Rattle.cart.proofs.Evicting.{full-room, begins-passing, passes-end}
 use Rattle.cart.proofs.evict.Statement.{statement}
 use Rattle.cart.proofs.evict.Tie as tie
-use Rattle.cart.proofs.evict.Reads as reads
-use Rattle.cart.proofs.evict.Lts as lts
-use Rattle.cart.proofs.demote.Reads as demote-reads
-use Rattle.cart.proofs.first_pass.Reads as first-pass-reads
-use Rattle.cart.proofs.second_pass.Reads as second-pass-reads
-use Rattle.entries.proofs.lists.wide.Reads as wide-reads
-use Rattle.entries.proofs.search.count.Reads as count-reads
 
 -- The counts at the start are those of T1 and T2.
 starts : (c : tie.After-count) → let w = c .before .before .before .before .before .before .args .dir .now in
@@ -56,8 +50,10 @@ same-length c = search needs
 returns : tie.Need-returns
 unfolding evict
 returns c =
+    let full = c .before .before .before .before .before .before .before .before .before .before .before .before .before .before .before .before .before .before .pre in
+    let counted = c .before .before .before .before .before .before .before .before .before .before .before .before in
     c .before .before .demote .ensures _
-    (passes-end (c .before .before .before .before .before .before .before .before .before .before .before .before .before .before .before .before .before .before .pre) (starts (c .before .before .before .before .before .before .before .before .before .before .before .before)) (c .before .before .before .before .before .before .before .before .before .before .first-pass .ensures .1) (c .before .before .before .before .before .before .second-pass .ensures .2))
+    (passes-end full (starts counted) (c .before .before .before .before .before .before .before .before .before .before .first-pass .ensures .1) (c .before .before .before .before .before .before .second-pass .ensures .2))
 
 pub evict-spec : {M : Type 1} → statement M
 evict-spec =

@@ -1,3 +1,5 @@
+-- A turn of the loop is one look, and what is left from here is what is left from the start; where the loop ends the look stops.
+-- The measure is the moves that are left: Passing bounds them, and every look costs one.
 use borrow.Author.Needs.{needs}
 use mathlib.Core.Path.{_≡_, refl}
 use Prim.Native.Nat.{_+_, _-_}
@@ -11,11 +13,6 @@ use Rattle.cart.proofs.Looks.{Moved, first-looks, first-stops}
 use Rattle.cart.proofs.Passes.{Underway, begins, goes-on, ends-here}
 use Rattle.cart.proofs.first_pass.Statement.{statement}
 use Rattle.cart.proofs.first_pass.Tie as tie
-use Rattle.cart.proofs.first_pass.Reads as reads
-use Rattle.cart.proofs.first_pass.Lts as lts
-use Rattle.cart.proofs.head_flags.Reads as head-flags-reads
-use Rattle.cart.proofs.raise.Reads as raise-reads
-use Rattle.entries.proofs.lists.t2_head_to_t1.Reads as t2-head-to-t1-reads
 
 abbrev Inv-loop : tie.InvT-loop
 Inv-loop dir₀ short long moves₀ f₀ dir moves f =

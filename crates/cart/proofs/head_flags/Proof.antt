@@ -1,3 +1,4 @@
+-- The word behind the head's page is its flags; an empty list's length word is 0.
 use borrow.Author.Needs.{needs}
 use Prim.Native.Nat.{_+_}
 use native.Mathlib.Omega.{arith}
@@ -5,9 +6,6 @@ use Rattle.entries.proofs.Starts.{start-of-next, starts-within}
 use Rattle.cart.proofs.FirstWords.{head-flags-none, head-flags-some}
 use Rattle.cart.proofs.head_flags.Statement.{statement}
 use Rattle.cart.proofs.head_flags.Tie as tie
-use Rattle.cart.proofs.head_flags.Reads as reads
-use Rattle.cart.proofs.head_flags.Lts as lts
-use Rattle.entries.proofs.lists.start_of.Reads as start-of-reads
 
 add-n : tie.Need-add-n
 add-n c = search needs

@@ -1,12 +1,10 @@
+-- Where q is 0 the difference on ℕ is 0, which the code writes out, so that the greatest is the definition's.
 use borrow.Author.Needs.{needs}
 use mathlib.Core.Logic.{⊎-elim}
 use native.Mathlib.Omega.{arith}
 use Rattle.cart.proofs.FirstWords.{lowered}
 use Rattle.cart.proofs.lower.Statement.{statement}
 use Rattle.cart.proofs.lower.Tie as tie
-use Rattle.cart.proofs.lower.Reads as reads
-use Rattle.cart.proofs.lower.Lts as lts
-use Rattle.entries.proofs.numbers.greatest.Reads as greatest-reads
 
 slice-read-q : tie.Need-slice-read-q
 slice-read-q c = search needs

@@ -1,11 +1,9 @@
+-- The words that the test reads are c, the sizes and n_S, so that q is set where the definition sets it, to the same least.
 use borrow.Author.Needs.{needs}
 use native.Mathlib.Omega.{arith}
 use Rattle.cart.proofs.FirstWords.{raised, not-raised}
 use Rattle.cart.proofs.raise.Statement.{statement}
 use Rattle.cart.proofs.raise.Tie as tie
-use Rattle.cart.proofs.raise.Reads as reads
-use Rattle.cart.proofs.raise.Lts as lts
-use Rattle.entries.proofs.numbers.least.Reads as least-reads
 
 slice-read-c : tie.Need-slice-read-c
 slice-read-c c = search needs

@@ -1,20 +1,18 @@
+-- A turn of the loop is one look, and what is left from here is what is left from the start; where the loop ends the look stops.
+-- The measure is the moves that are left: Passing bounds them, and every look costs one.
 use borrow.Author.Needs.{needs}
 use mathlib.Core.Path.{_≡_, refl}
-use Prim.Native.Nat.{_+_, _-_}
+use Prim.Native.Nat.{_-_}
 use native.Mathlib.Omega.{arith}
 use lib.ListN.{length}
 use Rattle.figures.specs.Words.{decode}
 use Rattle.figures.specs.Cart as Cart
-use Rattle.cart.specs.Passing.{headFlags, Passing, Looked}
+use Rattle.cart.specs.Passing.{headFlags, Passing}
 use Rattle.cart.proofs.Accounts.{passing-room}
 use Rattle.cart.proofs.Looks.{second-stops}
 use Rattle.cart.proofs.Passes.{Underway, begins, goes-on, ends-here}
 use Rattle.cart.proofs.second_pass.Statement.{statement}
 use Rattle.cart.proofs.second_pass.Tie as tie
-use Rattle.cart.proofs.second_pass.Reads as reads
-use Rattle.cart.proofs.second_pass.Lts as lts
-use Rattle.cart.proofs.head_flags.Reads as head-flags-reads
-use Rattle.cart.proofs.turn.Reads as turn-reads
 
 abbrev Inv-loop : tie.InvT-loop
 Inv-loop dir₀ now₀ f₀ dir now f =
@@ -43,7 +41,7 @@ head-flags-requires-2 : tie.Need-head-flags-requires-2 Inv-loop μ-loop
 head-flags-requires-2 c κs = (passing-room (c .before .before .before .turn .ensures .passing), omega arith)
 
 loop-less : tie.Need-loop-less Inv-loop μ-loop
-loop-less c = 
+loop-less c =
     let l = c .before .before .before .before .turn .ensures in
     omega (arith, l .passing .left, l .one-move)
 

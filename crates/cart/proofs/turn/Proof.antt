@@ -1,3 +1,4 @@
+-- The flags tell the head's bit and filter, and with them which move the look names; `Looks` has one law for each.
 use borrow.Author.Needs.{needs}
 use mathlib.Core.Path.{sym, _∙_}
 use mathlib.Core.Logic.{⊎-elim}
@@ -9,11 +10,6 @@ use Rattle.cart.proofs.Accounts.{passing-room, t1-some, short-counted, 
 use Rattle.cart.proofs.Looks.{Moved, look-settles, look-goes-round, look-makes-long}
 use Rattle.cart.proofs.turn.Statement.{statement}
 use Rattle.cart.proofs.turn.Tie as tie
-use Rattle.cart.proofs.turn.Reads as reads
-use Rattle.cart.proofs.turn.Lts as lts
-use Rattle.cart.proofs.becomes_long.Reads as becomes-long-reads
-use Rattle.cart.proofs.lower.Reads as lower-reads
-use Rattle.entries.proofs.lists.move_head.Reads as move-head-reads
 
 t1-there : (c : tie.Start) → 1 ≤ nT1 (c .args .dir .now)
 t1-there c = t1-some (c .pre .1 .0) (omega arith)
@@ -35,7 +31,9 @@ move-head-requires : tie.Need-move-head-requires
 move-head-requires c κs = (c .before .before .before .before .before .before .before .before .before .pre .0, omega (arith, t1-there (c .before .before .before .before .before .before .before .before .before)))
 
 sub-t14 : tie.Need-sub-t14
-sub-t14 c = let s = c .before .before .before .before .before .before .before .before .before .before .before .before .before in short-counted (s .pre .1 .0) (t1-there s) (omega arith)
+sub-t14 c =
+    let s = c .before .before .before .before .before .before .before .before .before .before .before .before .before in
+    omega (arith, short-counted (s .pre .1 .0) (t1-there s) (omega arith))
 
 add-t16 : tie.Need-add-t16
 add-t16 c = omega (arith, counts-cached (c .before .before .before .before .before .before .before .before .before .before .before .before .before .before .pre .1 .0))

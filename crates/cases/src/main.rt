@@ -1,0 +1,186 @@
+// Document 01's cases through the code: P1 to P12, the limits, each soundness rule broken once, pages 0 and 4,294,967,295.
+// It prints what each call gave, and the gate compares that with the file stdout.
+
+fn space_and(n: u32) {
+    io::write_all(1, b" ");
+    io::print_decimal(1, n as u64);
+}
+
+// A mark, then an answer: its number, kind, page, list and moves.
+fn show_answer(mark: &[u8], a: directory::Answer) {
+    io::write_all(1, mark);
+    space_and(a.number);
+    space_and(a.kind);
+    space_and(a.page);
+    space_and(a.list);
+    space_and(a.moves);
+    io::write_all(1, b"\n");
+}
+
+// A mark, then a number.
+fn show_number(mark: &[u8], n: u32) {
+    io::write_all(1, mark);
+    space_and(n);
+    io::write_all(1, b"\n");
+}
+
+fn show_words(dir: &[u32]) {
+    io::write_all(1, b"  dir");
+    let mut i = 0;
+    while i < dir.len() {
+        space_and(dir[i]);
+        i += 1;
+    }
+    io::write_all(1, b"\n");
+}
+
+// The trace from a fresh directory, and the last request's answer.
+fn replay(policy: u32, c: u32, trace: &[u32], dir: &mut [u32]) -> directory::Answer {
+    let number = directory::fresh(policy, c, dir);
+    let mut last = directory::Answer {
+        number,
+        kind: 0,
+        page: 0,
+        list: 0,
+        moves: 0,
+    };
+    let mut i = 0;
+    while i < trace.len() {
+        last = directory::request(dir, trace[i]);
+        i += 1;
+    }
+    last
+}
+
+fn case(mark: &[u8], policy: u32, c: u32, trace: &[u32], dir: &mut [u32]) {
+    show_answer(mark, replay(policy, c, trace, dir));
+    show_words(dir);
+}
+
+// The check of the directory with the word at another value, which is then put back.
+fn broken(mark: &[u8], dir: &mut [u32], at: usize, value: u32) {
+    if at < dir.len() {
+        let old = dir[at];
+        dir[at] = value;
+        show_number(mark, directory::check(dir));
+        dir[at] = old;
+    }
+}
+
+fn worked_cases() {
+    let mut one = [0u32; 12];
+    let mut two = [0u32; 16];
+    let trace = [1u32, 2, 1, 3, 2, 1, 4, 2, 5];
+    let again = [1u32, 2, 1, 2, 3];
+    case(b"P1", 1, 2, &trace[..4], &mut two);
+    case(b"P2", 1, 2, &trace[..5], &mut two);
+    case(b"P3", 1, 2, &trace[..7], &mut two);
+    case(b"P4", 1, 2, &trace[..8], &mut two);
+    case(b"P5", 1, 2, &trace, &mut two);
+    case(b"P6", 2, 2, &trace[..4], &mut two);
+    case(b"P7", 2, 2, &trace[..5], &mut two);
+    case(b"P8", 2, 2, &trace[..7], &mut two);
+    case(b"P9", 2, 2, &trace[..8], &mut two);
+    case(b"P10", 1, 2, &again, &mut two);
+    case(b"P11", 2, 2, &again, &mut two);
+    case(b"P12", 1, 1, &trace[..2], &mut one);
+}
+
+fn pages_at_the_ends() {
+    let mut two = [0u32; 16];
+    let ends = [0u32, 4294967295, 0, 7, 4294967295];
+    case(b"pages 0 and 4294967295, CAR", 1, 2, &ends, &mut two);
+    case(b"pages 0 and 4294967295, CART", 2, 2, &ends, &mut two);
+}
+
+fn sizes_of_a_fresh_directory() {
+    let mut words7 = [0u32; 7];
+    let mut words8 = [0u32; 8];
+    let mut words12 = [0u32; 12];
+    let mut words15 = [0u32; 15];
+    let mut words16 = [0u32; 16];
+    let mut words17 = [0u32; 17];
+    let mut words4108 = [0u32; 4108];
+    show_number(b"fresh c=1", directory::fresh(1, 1, &mut words12));
+    show_number(b"fresh c=0", directory::fresh(1, 0, &mut words8));
+    show_number(b"fresh c=1025", directory::fresh(1, 1025, &mut words4108));
+    show_number(b"fresh policy 0", directory::fresh(0, 2, &mut words16));
+    show_number(b"fresh policy 3", directory::fresh(3, 2, &mut words16));
+    show_number(
+        b"fresh policy 3, c=0, 7 words",
+        directory::fresh(3, 0, &mut words7),
+    );
+    show_number(b"fresh a word short", directory::fresh(1, 2, &mut words15));
+    show_number(b"fresh a word long", directory::fresh(1, 2, &mut words17));
+}
+
+fn largest_directory() {
+    let mut words = [0u32; 4104];
+    show_number(b"fresh c=1024", directory::fresh(2, 1024, &mut words));
+    show_number(b"check c=1024", directory::check(&words));
+    show_answer(b"request c=1024", directory::request(&mut words, 5));
+}
+
+fn sizes_of_a_checked_directory() {
+    let none = [0u32; 0];
+    let words7 = [1u32, 2, 0, 0, 0, 0, 0];
+    let words15 = [1u32, 2, 0, 0, 0, 0, 0, 0, 0, 0, 0, 0, 0, 0, 0];
+    let words17 = [1u32, 2, 0, 0, 0, 0, 0, 0, 0, 0, 0, 0, 0, 0, 0, 0, 0];
+    let mut short = words15;
+    show_number(b"check 0 words", directory::check(&none));
+    show_number(b"check 7 words", directory::check(&words7));
+    show_number(b"check a word short", directory::check(&words15));
+    show_number(b"check a word long", directory::check(&words17));
+    show_answer(b"request a word short", directory::request(&mut short, 9));
+    show_words(&short);
+}
+
+fn words_out_of_range() {
+    let mut two = [0u32; 16];
+    directory::fresh(1, 2, &mut two);
+    broken(b"check c=0", &mut two, 1, 0);
+    broken(b"check c=1025", &mut two, 1, 1025);
+    broken(b"check policy 3", &mut two, 0, 3);
+}
+
+fn broken_rules() {
+    let mut two = [0u32; 16];
+    let trace = [1u32, 2, 1, 3, 2, 1, 4];
+    // after P3: T1 = 4, T2 = 1, B1 = 3, B2 = 2
+    replay(1, 2, &trace, &mut two);
+    show_number(b"sound CAR", directory::check(&two));
+    broken(b"p over c", &mut two, 2, 3);
+    broken(b"T1 too long", &mut two, 4, 2);
+    broken(b"T1 of 4294967295", &mut two, 4, 4294967295);
+    broken(b"B1 too long", &mut two, 6, 2);
+    broken(b"histories while there is room", &mut two, 5, 0);
+    broken(b"a page twice", &mut two, 10, 4);
+    broken(b"flags of 4", &mut two, 9, 4);
+    broken(b"a bit in B1", &mut two, 13, 1);
+    broken(b"a bit in B2", &mut two, 15, 1);
+    broken(b"q for CAR", &mut two, 3, 1);
+    broken(b"a filter for CAR", &mut two, 9, 2);
+    broken(b"CAR's directory as CART's", &mut two, 0, 2);
+    directory::fresh(1, 2, &mut two);
+    broken(b"an unused word", &mut two, 15, 1);
+    let long = [1u32, 2, 0, 0, 2, 0, 1, 0, 1, 0, 3, 0, 2, 0, 0, 0];
+    show_number(b"T1 and B1 too long for CAR", directory::check(&long));
+    replay(2, 2, &trace[..4], &mut two);
+    show_number(b"sound CART", directory::check(&two));
+    broken(b"q over 2c", &mut two, 3, 5);
+    broken(b"an L page in B1", &mut two, 13, 2);
+    // after P8: T1 = 4, T2 = 1, B1 = 3, B2 = 2
+    replay(2, 2, &trace, &mut two);
+    broken(b"an S page in T2", &mut two, 11, 0);
+    broken(b"an S page in B2", &mut two, 15, 0);
+}
+
+fn main() {
+    worked_cases();
+    pages_at_the_ends();
+    sizes_of_a_fresh_directory();
+    largest_directory();
+    sizes_of_a_checked_directory();
+    words_out_of_range();
+    broken_rules();
+}
