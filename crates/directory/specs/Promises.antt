@@ -2,12 +2,14 @@
 -- Each is fixed by the total function of figures' Refusals; proofs/Determined shows that two outcomes it allows are equal.
 use mathlib.Core.Path.{_≡_}
 use mathlib.Core.List.{List}
-use Prim.Native.Nat.{ℕ, _*_, _≤_}
+use Prim.Native.Nat.{ℕ, _+_, _*_, _≤_}
 use Rattle.figures.specs.Choice.{∣_∣}
 use Rattle.figures.specs.Words.{decode}
-use Rattle.figures.specs.Refusals.{onFresh, onCheck, onRequest}
-use Rattle.figures.specs.Demands.{mostMoves}
+use Rattle.figures.specs.Refusals.{onFresh, onCheck, onRequest, onRun}
+use Rattle.figures.specs.Demands.{mostMoves, movesEach, owed}
+use Rattle.tally.specs.Note.{defined}
 use Rattle.directory.specs.declared.Answer.{Answer}
+use Rattle.directory.specs.declared.Ran.{Ran}
 
 -- fresh(policy, c, dir) -> number
 pub record Freshened (policy c : ℕ) (w : List ℕ) (number : ℕ) (w′ : List ℕ) : Type 0 where
@@ -28,3 +30,12 @@ pub record Requested (w : List ℕ) (page : ℕ) (r : Answer) (w′ : List ℕ) 
   pub words-are : w′ ≡ onRequest w page .words
   -- c + 1 for CAR, 2c + 1 for CART
   pub moves-at-most : r .moves ≤ mostMoves (decode w)
+
+-- run(dir, trace, answers) -> Ran
+pub record Replayed (w trace answers : List ℕ) (r : Ran) (w′ answers′ : List ℕ) : Type 0 where
+  pub number-is : r .number ≡ onRun w trace answers .number
+  pub tally-is : defined (r .tally) ≡ onRun w trace answers .tally
+  pub words-are : w′ ≡ onRun w trace answers .words
+  pub answers-are : answers′ ≡ onRun w trace answers .answers
+  -- one a request for CAR, two for CART, and what the directory owes at the start
+  pub moves-at-most : r .tally .moves ≤ movesEach (decode w) * ∣ trace ∣ + owed (decode w)

@@ -2,13 +2,17 @@
 // and a refused call changes no lent word. What each promises is in specs/Promises.
 ghost use mathlib.Core.Path.{_≡_};
 ghost use mathlib.Core.Bool.{Bool};
-ghost use lib.ListN.{length, replicate};
+ghost use Prim.Native.Nat.{_+_, _*_, _≤_};
+ghost use mathlib.Core.List.{_∷_, _++_};
+ghost use lib.ListN.{length, take, drop, replicate};
 ghost use Rattle.figures.specs.Words.{decode};
 ghost use Rattle.figures.specs.Sound.{knownPolicy, knownSize};
 ghost use Rattle.figures.specs.Request.{request};
+ghost use Rattle.figures.specs.Run.{zeroTally};
 ghost use Rattle.entries.specs.Answers.{Tells};
-ghost use Rattle.directory.specs.Promises.{Freshened, Checked, Requested};
-ghost use Rattle.directory.specs.Orderly.{Ready};
+ghost use Rattle.tally.specs.Note.{defined, Small};
+ghost use Rattle.directory.specs.Promises.{Freshened, Checked, Requested, Replayed};
+ghost use Rattle.directory.specs.Orderly.{Ready, Stepped, RunThrough};
 
 mod soundness;
 
@@ -141,5 +145,89 @@ pub fn request(dir: &mut [u32], page: u32) -> Answer
         page: served.page,
         list: served.list,
         moves: served.moves,
+    }
+}
+
+// A run's answer; a tally of zeros beside the number of a refusal.
+pub struct Ran {
+    pub number: u32,
+    pub tally: tally::Tally,
+}
+
+// An answer's four words, written from word at on.
+fn put_answer(answers: &mut [u32], at: usize, served: entries::Served)
+    requires { ⌜ at + 4 ≤ length (now answers) ⌝ }
+    ensures { λ _. ⌜ now (answers .exit) ≡ take at (now (answers .entry)) ++ (served .kind ∷ served .page ∷ served .list ∷ served .moves ∷ drop (at + 4) (now (answers .entry))) ⌝ }
+{
+    answers[at] = served.kind;
+    answers[at + 1] = served.page;
+    answers[at + 2] = served.list;
+    answers[at + 3] = served.moves;
+}
+
+// One request of a run: served, answered from word at on, and counted.
+fn step(dir: &mut [u32], page: u32, answers: &mut [u32], at: usize, t: tally::Tally) -> tally::Tally
+    requires { ⌜ Ready (now dir) ⌝ }
+    requires { ⌜ (at + 4 ≤ length (now answers)) × Small t ⌝ }
+    ensures { λ r. ⌜ Stepped page (now (dir .entry)) (now (answers .entry)) at t r (now (dir .exit)) (now (answers .exit)) ⌝ }
+{
+    let served = serve(dir, page);
+    put_answer(answers, at, served);
+    tally::counted(t, served.kind, served.moves)
+}
+
+fn no_tally() -> tally::Tally
+    ensures { λ r. ⌜ defined r ≡ zeroTally ⌝ }
+{
+    tally::Tally {
+        requests: 0,
+        hits: 0,
+        misses: 0,
+        evictions: 0,
+        moves: 0,
+    }
+}
+
+// The requests of a trace in order, from a sound directory.
+fn replay(dir: &mut [u32], trace: &[u32], answers: &mut [u32]) -> tally::Tally
+    requires { ⌜ Ready (now dir) ⌝ }
+    requires { ⌜ (length (now trace) ≤ 1000) × (4 * length (now trace) ≤ length (now answers)) ⌝ }
+    ensures { λ r. ⌜ RunThrough (now (dir .entry)) (now (trace .entry)) (now (answers .entry)) r (now (dir .exit)) (now (answers .exit)) ⌝ }
+{
+    let mut t = no_tally();
+    let mut i = 0;
+    while i < trace.len() {
+        t = step(dir, trace[i], answers, 4 * i, t);
+        i += 1;
+    }
+    t
+}
+
+// A run: refusals as a request, then 5, 6.
+pub fn run(dir: &mut [u32], trace: &[u32], answers: &mut [u32]) -> Ran
+    ensures { λ r. ⌜ Replayed (now (dir .entry)) (now (trace .entry)) (now (answers .entry)) r (now (dir .exit)) (now (answers .exit)) ⌝ }
+{
+    let number = check(dir);
+    if number != 0 {
+        return Ran {
+            number,
+            tally: no_tally(),
+        };
+    }
+    if 1000 < trace.len() {
+        return Ran {
+            number: 5,
+            tally: no_tally(),
+        };
+    }
+    if answers.len() < 4 * trace.len() {
+        return Ran {
+            number: 6,
+            tally: no_tally(),
+        };
+    }
+    Ran {
+        number: 0,
+        tally: replay(dir, trace, answers),
     }
 }
