@@ -3,6 +3,9 @@ pub mod Tests
 pub mod Parts
 pub mod Serving
 pub mod Requesting
+pub mod Replaying
+pub mod Running
 pub mod Rules
 pub mod Refused
 pub mod Determined
+pub mod Bounded

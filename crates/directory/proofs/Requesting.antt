@@ -1,6 +1,6 @@
 -- A request as the definition has it for every input: refused as the check refuses, else served.
 -- Assumes nothing.
-use mathlib.Core.Path.{_≡_, refl, sym, ap, _∙_, subst⁻¹}
+use mathlib.Core.Path.{_≡_, refl, sym, ap, _∙_}
 use mathlib.Core.Bool.{Bool, true, false, not}
 use mathlib.Core.List.{List}
 use Prim.Native.Nat.{ℕ, _+_, _*_, _≤_}
@@ -15,11 +15,11 @@ use Rattle.figures.specs.Request.{request}
 use Rattle.figures.specs.Refusals.{checkNumber, onCheck, onRequest, Answered, refusedRequest, servedRequest}
 use Rattle.figures.specs.Demands.{mostMoves}
 use Rattle.figures.proofs.Lists.{either}
-use Rattle.figures.proofs.Encoding.{encode-decode}
 use Rattle.figures.proofs.Moves.{request-moves-at-most}
 use Rattle.entries.specs.Answers.{Tells}
 use Rattle.directory.specs.declared.Answer.{Answer}
 use Rattle.directory.specs.Promises.{Requested}
+use Rattle.directory.proofs.Serving.{decoded-sound}
 
 -- Only a sound directory is accepted.
 pub accepted-sound : (w : List ℕ) → onCheck w .number ≡ 0 → sound w ≡ true
@@ -67,8 +67,7 @@ module _ (w : List ℕ) (x n : ℕ) (number : n ≡ onCheck w .number) where
       → Requested w x (record { number = 0; kind = kind; page = page; list = list; moves = moves }) w′
   requested-served none kind page list moves w′ t =
       let e = sym (served none) in
-      let is-sound = accepted-sound w (sym number ∙ none) in
-      let d-sound = subst⁻¹ (λ (l : List ℕ). sound l ≡ true) (encode-decode w is-sound) is-sound in
+      let d-sound = decoded-sound w (accepted-sound w (sym number ∙ none)) in
       record {
         number-is = ap (λ (a : Answered). a .number) e;
         kind-is = t .kind-is ∙ ap (λ (a : Answered). a .kind) e;

@@ -14,6 +14,7 @@ use Rattle.figures.specs.Directory.{Directory, placeNew, cached}
 use Rattle.figures.specs.Words.{encode, decode, size, nT1, nT2}
 use Rattle.figures.specs.Sound.{sound, car, cart}
 use Rattle.figures.specs.Request.{Policy, carPolicy, cartPolicy, policyOf, Served, still, hit, missed, request}
+use Rattle.figures.specs.Demands.{Sound}
 use Rattle.figures.proofs.Lists.{either}
 use Rattle.figures.proofs.Encoding.{encode-decode, words-fit}
 use Rattle.figures.proofs.Soundness.{facts-of-words}
@@ -42,6 +43,10 @@ ready w is-sound =
       cache-fits = omega (arith, s .cache-fits);
       history-fits = omega (arith, s .history-fits);
     }
+
+-- What sound words hold is a sound directory.
+pub decoded-sound : (w : List ℕ) → sound w ≡ true → Sound (decode w)
+decoded-sound w is-sound = subst⁻¹ (λ (l : List ℕ). sound l ≡ true) (encode-decode w is-sound) is-sound
 
 has-append : (x : ℕ) (a b : List Entry) → has x (a ++ b) ≡ has x a || has x b
 has-append x [] b = refl
@@ -81,7 +86,7 @@ module _ {w : List ℕ} (r : Ready w) where
   -- a request leaves it sound
   pub ready-again : (x : ℕ) (w′ : List ℕ) → w′ ≡ encode (request x d .dir) → Ready w′
   ready-again x w′ is =
-      ready w′ (subst⁻¹ (λ (l : List ℕ). sound l ≡ true) is (request-keeps x d (subst⁻¹ (λ (l : List ℕ). sound l ≡ true) words-held (r .is-sound)) .sound-again))
+      ready w′ (subst⁻¹ (λ (l : List ℕ). sound l ≡ true) is (request-keeps x d (decoded-sound w (r .is-sound)) .sound-again))
 
   -- by what the request comes to
   module _ (x : ℕ) (w′ : List ℕ) where

@@ -1,14 +1,10 @@
 // The four lists in the words: a head to a tail, a page to a tail, a page back from a history, a head dropped.
 // Lists are named by number in their order: 0 is T1, 1 is T2, 2 is B1, 3 is B2.
 ghost use mathlib.Core.Path.{_≡_};
-ghost use Prim.Native.Nat.{ℕ, _+_, _*_, _≤_, _<_};
-ghost use mathlib.Core.List.{List, _∷_, _++_};
+ghost use Prim.Native.Nat.{_+_, _≤_, _<_};
 ghost use lib.ListN.{length, getD};
-ghost use Rattle.figures.specs.Entry.{Entry, cleared, without, dropHead};
-ghost use Rattle.figures.specs.Directory.{Directory, T1, T2, listOf, withList, toTail, placeNew, cached, remembered};
-ghost use Rattle.figures.specs.Words.{flags, encode};
-ghost use Rattle.figures.specs.Request.{hit};
-ghost use Rattle.entries.specs.Stretches.{Room, nameOf, startOf, index};
+ghost use Rattle.entries.specs.Stretches.{Room, startOf};
+ghost use Rattle.entries.specs.Leaves.{HeadMoved, BorderMoved, PlacedNew, CameBack, HeadDropped, Marked};
 use crate::stretch;
 
 pub fn wide(x: u32) -> usize
@@ -39,7 +35,7 @@ pub fn start_of(dir: &[u32], i: usize) -> usize
 pub fn move_head(dir: &mut [u32], i: usize, j: usize, flags: u32)
     requires { ⌜ Room (now dir) ⌝ }
     requires { ⌜ (i ≤ 1) × (i ≤ j) × (j ≤ 3) × (1 ≤ getD (now dir) (4 + i) 0) ⌝ }
-    ensures { λ _. ⌜ ((d : Directory) (e e′ : Entry) (es : List Entry) → encode d ≡ now (dir .entry) → listOf (nameOf i) d ≡ e ∷ es → e′ .page ≡ e .page → «flags» ≡ Rattle.figures.specs.Words.flags e′ → now (dir .exit) ≡ encode (toTail (nameOf j) e′ (withList (nameOf i) es d))) ⌝ }
+    ensures { λ _. ⌜ HeadMoved i j flags (now (dir .entry)) (now (dir .exit)) ⌝ }
 {
     let a = start_of(dir, i);
     let e = start_of(dir, j + 1);
@@ -56,7 +52,7 @@ pub fn move_head(dir: &mut [u32], i: usize, j: usize, flags: u32)
 pub fn t2_head_to_t1(dir: &mut [u32])
     requires { ⌜ Room (now dir) ⌝ }
     requires { ⌜ 1 ≤ getD (now dir) 5 0 ⌝ }
-    ensures { λ _. ⌜ ((d : Directory) (e : Entry) (es : List Entry) → encode d ≡ now (dir .entry) → d .t2 ≡ e ∷ es → now (dir .exit) ≡ encode (toTail T1 (cleared e) (withList T2 es d))) ⌝ }
+    ensures { λ _. ⌜ BorderMoved (now (dir .entry)) (now (dir .exit)) ⌝ }
 {
     let n1 = dir[4];
     let n2 = dir[5];
@@ -71,7 +67,7 @@ pub fn t2_head_to_t1(dir: &mut [u32])
 pub fn place_new(dir: &mut [u32], page: u32)
     requires { ⌜ Room (now dir) ⌝ }
     requires { ⌜ startOf 4 (now dir) + 2 ≤ length (now dir) ⌝ }
-    ensures { λ _. ⌜ ((d : Directory) → encode d ≡ now (dir .entry) → now (dir .exit) ≡ encode (placeNew page d)) ⌝ }
+    ensures { λ _. ⌜ PlacedNew page (now (dir .entry)) (now (dir .exit)) ⌝ }
 {
     let a = start_of(dir, 1);
     let e = start_of(dir, 4);
@@ -84,7 +80,7 @@ pub fn place_new(dir: &mut [u32], page: u32)
 pub fn come_back(dir: &mut [u32], b: usize, k: usize, t: usize, page: u32, flags: u32)
     requires { ⌜ Room (now dir) ⌝ }
     requires { ⌜ (t ≤ 1) × (2 ≤ b) × (b ≤ 3) × (k < getD (now dir) (4 + b) 0) ⌝ }
-    ensures { λ _. ⌜ ((d : Directory) (e′ : Entry) → encode d ≡ now (dir .entry) → k ≡ index page (listOf (nameOf b) d) → e′ .page ≡ page → «flags» ≡ Rattle.figures.specs.Words.flags e′ → now (dir .exit) ≡ encode (toTail (nameOf t) e′ (withList (nameOf b) (without page (listOf (nameOf b) d)) d))) ⌝ }
+    ensures { λ _. ⌜ CameBack b k t page flags (now (dir .entry)) (now (dir .exit)) ⌝ }
 {
     let a = start_of(dir, t + 1);
     let e = start_of(dir, b) + 2 * k + 2;
@@ -99,7 +95,7 @@ pub fn come_back(dir: &mut [u32], b: usize, k: usize, t: usize, page: u32, flags
 pub fn drop_head(dir: &mut [u32], b: usize)
     requires { ⌜ Room (now dir) ⌝ }
     requires { ⌜ (2 ≤ b) × (b ≤ 3) × (1 ≤ getD (now dir) (4 + b) 0) ⌝ }
-    ensures { λ _. ⌜ ((d : Directory) → encode d ≡ now (dir .entry) → cached d + remembered d ≤ 2 * d .c → now (dir .exit) ≡ encode (withList (nameOf b) (dropHead (listOf (nameOf b) d)) d)) ⌝ }
+    ensures { λ _. ⌜ HeadDropped b (now (dir .entry)) (now (dir .exit)) ⌝ }
 {
     let a = start_of(dir, b);
     let e = start_of(dir, 4);
@@ -112,7 +108,7 @@ pub fn drop_head(dir: &mut [u32], b: usize)
 pub fn mark(dir: &mut [u32], k: usize)
     requires { ⌜ Room (now dir) ⌝ }
     requires { ⌜ k < getD (now dir) 4 0 + getD (now dir) 5 0 ⌝ }
-    ensures { λ _. ⌜ ((d : Directory) (x : ℕ) → encode d ≡ now (dir .entry) → k ≡ index x (d .t1 ++ d .t2) → now (dir .exit) ≡ encode (hit x d)) ⌝ }
+    ensures { λ _. ⌜ Marked k (now (dir .entry)) (now (dir .exit)) ⌝ }
 {
     let at = 8 + 2 * k + 1;
     let f = dir[at];

@@ -12,7 +12,7 @@ ghost use Rattle.entries.specs.Stretches.{index, ofFlag};
 // The place of the first of the n entries from word a on that is for page, or n.
 pub fn find(dir: &[u32], a: usize, n: usize, page: u32) -> usize
     requires { ⌜ (a + 2 * n ≤ length (now dir)) × (length (now dir) ≤ 4104) ⌝ }
-    ensures { λ r. ⌜ (r ≤ n) × ((P R : List ℕ) (l : List Entry) → now (dir .entry) ≡ P ++ (words l ++ R) → length P ≡ a → length l ≡ n → r ≡ index page l) ⌝ }
+    ensures { λ r. ⌜ FoundAt (now (dir .entry)) a n page r ⌝ }
 {
     let mut i = 0;
     while i < n {
@@ -27,7 +27,7 @@ pub fn find(dir: &[u32], a: usize, n: usize, page: u32) -> usize
 // How many of the n entries from word a on have a flag: 1 is the reference bit, 2 the filter L.
 pub fn count(dir: &[u32], a: usize, n: usize, flag: u32) -> u32
     requires { ⌜ (a + 2 * n ≤ length (now dir)) × (length (now dir) ≤ 4104) × (1 ≤ flag) × (flag ≤ 2) ⌝ }
-    ensures { λ r. ⌜ (r ≤ n) × ((P R : List ℕ) (l : List Entry) → now (dir .entry) ≡ P ++ (words l ++ R) → length P ≡ a → length l ≡ n → r ≡ total (ofFlag flag) l) ⌝ }
+    ensures { λ r. ⌜ Counted (now (dir .entry)) a n flag r ⌝ }
 {
     let mut sum = 0u32;
     let mut i = 0;
@@ -71,7 +71,7 @@ pub fn all_zero(dir: &[u32], a: usize) -> bool
 // Whether the pages of the first n entries differ.
 pub fn pages_differ(dir: &[u32], n: usize) -> bool
     requires { ⌜ (8 + 2 * n ≤ length (now dir)) × (length (now dir) ≤ 4104) ⌝ }
-    ensures { λ r. ⌜ ((P R : List ℕ) (l : List Entry) → now (dir .entry) ≡ P ++ (words l ++ R) → length P ≡ 8 → length l ≡ n → r ≡ differ l) ⌝ }
+    ensures { λ r. ⌜ OfEntries (now (dir .entry)) 8 n (λ l. r ≡ differ l) ⌝ }
 {
     let mut i = 0;
     while i < n {

@@ -1,9 +1,10 @@
 // A stretch of words turned by one entry, and an entry put in: two words each.
 // What stands before and after the stretch stays.
 ghost use mathlib.Core.Path.{_≡_};
-ghost use Prim.Native.Nat.{ℕ, _+_, _≤_};
-ghost use mathlib.Core.List.{List, _∷_, _++_};
+ghost use Prim.Native.Nat.{_+_, _≤_};
+ghost use mathlib.Core.List.{_∷_, _++_};
 ghost use lib.ListN.{length, take, drop};
+ghost use Rattle.entries.specs.Leaves.{ToEnd, PutIn, TakenOut};
 
 // Turns s by one entry: the first becomes the last. One word or none stays.
 fn turn(s: &mut [u32])
@@ -28,7 +29,7 @@ fn turn(s: &mut [u32])
 // Makes the entry at word a the last before word e, with new flags.
 pub fn to_end(dir: &mut [u32], a: usize, e: usize, flags: u32)
     requires { ⌜ (a + 2 ≤ e) × (e ≤ length (now dir)) ⌝ }
-    ensures { λ _. ⌜ ((P M R : List ℕ) (h f : ℕ) → now (dir .entry) ≡ P ++ (h ∷ f ∷ (M ++ R)) → length P ≡ a → a + 2 + length M ≡ e → now (dir .exit) ≡ P ++ (M ++ (h ∷ flags ∷ R))) ⌝ }
+    ensures { λ _. ⌜ ToEnd a e flags (now (dir .entry)) (now (dir .exit)) ⌝ }
 {
     dir[a + 1] = flags;
     turn(&mut dir[a..e]);
@@ -52,7 +53,7 @@ fn shift_in(s: &mut [u32], x: u32)
 // Puts an entry in at word a; the last entry before word e falls out.
 pub fn put_in(dir: &mut [u32], a: usize, e: usize, page: u32, flags: u32)
     requires { ⌜ (a ≤ e) × (e ≤ length (now dir)) ⌝ }
-    ensures { λ _. ⌜ ((P M R : List ℕ) (h f : ℕ) → now (dir .entry) ≡ P ++ (M ++ (h ∷ f ∷ R)) → length P ≡ a → a + length M + 2 ≡ e → now (dir .exit) ≡ P ++ (page ∷ flags ∷ (M ++ R))) ⌝ }
+    ensures { λ _. ⌜ PutIn a e page flags (now (dir .entry)) (now (dir .exit)) ⌝ }
 {
     shift_in(&mut dir[a..e], flags);
     shift_in(&mut dir[a..e], page);
@@ -61,7 +62,7 @@ pub fn put_in(dir: &mut [u32], a: usize, e: usize, page: u32, flags: u32)
 // Takes the entry at word a out of the words before e, and leaves two zeros at their end.
 pub fn take_out(dir: &mut [u32], a: usize, e: usize)
     requires { ⌜ (a + 2 ≤ e) × (e ≤ length (now dir)) ⌝ }
-    ensures { λ _. ⌜ ((P M R : List ℕ) (h f : ℕ) → now (dir .entry) ≡ P ++ (h ∷ f ∷ (M ++ R)) → length P ≡ a → a + 2 + length M ≡ e → now (dir .exit) ≡ P ++ (M ++ (0 ∷ 0 ∷ R))) ⌝ }
+    ensures { λ _. ⌜ TakenOut a e (now (dir .entry)) (now (dir .exit)) ⌝ }
 {
     dir[a] = 0;
     to_end(dir, a, e, 0);

@@ -1,0 +1,27 @@
+-- Hand moves of a run from a fresh directory, by the promise alone: at most one a request for CAR, two for CART.
+-- Assumes nothing.
+use mathlib.Core.List.{List}
+use Prim.Native.Nat.{ℕ, _+_, _*_, _≤_}
+use native.Mathlib.Omega.{arith}
+use Rattle.figures.specs.Choice.{∣_∣}
+use Rattle.figures.specs.Directory.{Directory, fresh}
+use Rattle.figures.specs.Words.{encode}
+use Rattle.figures.specs.Sound.{car, cart}
+use Rattle.figures.specs.Demands.{movesEach, owed}
+use Rattle.figures.proofs.Encoding.{decode-encode}
+use Rattle.directory.specs.declared.Ran.{Ran}
+use Rattle.directory.specs.Promises.{Replayed}
+
+-- What the promise bounds, from the words of a directory.
+moves-of : (d : Directory) {trace answers w′ answers′ : List ℕ} {r : Ran}
+    → Replayed (encode d) trace answers r w′ answers′ → r .tally .moves ≤ movesEach d * ∣ trace ∣ + owed d
+moves-of d p = rw decode-encode at (p .moves-at-most)
+
+-- A fresh directory owes nothing.
+pub car-run-moves : (c : ℕ) → 1 ≤ c → c ≤ 1024 → (trace answers : List ℕ) (r : Ran) (w′ answers′ : List ℕ)
+    → Replayed (encode (fresh car c)) trace answers r w′ answers′ → r .tally .moves ≤ ∣ trace ∣
+car-run-moves c least most trace answers r w′ answers′ p = omega (arith, moves-of (fresh car c) p)
+
+pub cart-run-moves : (c : ℕ) → 1 ≤ c → c ≤ 1024 → (trace answers : List ℕ) (r : Ran) (w′ answers′ : List ℕ)
+    → Replayed (encode (fresh cart c)) trace answers r w′ answers′ → r .tally .moves ≤ 2 * ∣ trace ∣
+cart-run-moves c least most trace answers r w′ answers′ p = omega (arith, moves-of (fresh cart c) p)

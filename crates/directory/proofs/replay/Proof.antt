@@ -1,0 +1,80 @@
+-- The run is that of the definition: after i turns its first i answers are written, and what is left of the trace, from the
+-- words and the tally then, comes to what the whole comes to.
+use mathlib.Core.Path.{_≡_, refl}
+use Prim.Native.Nat.{_-_}
+use native.Mathlib.Omega.{arith}
+use lib.ListN.{length}
+use borrow.Author.Needs.{needs}
+use Rattle.tally.proofs.Tallies.{within-small}
+use Rattle.directory.proofs.Replaying.{Midway, begins, goes-on, ends}
+use Rattle.directory.proofs.replay.Statement.{statement}
+use Rattle.directory.proofs.replay.Tie as tie
+
+abbrev Inv-loop : tie.InvT-loop
+Inv-loop dir₀ trace answers₀ t₀ i₀ dir answers t i =
+    Midway dir₀ trace answers₀ i dir answers t × (length dir ≡ length dir₀) × (length answers ≡ length answers₀)
+
+abbrev μ-loop : tie.MeasureT-loop
+μ-loop dir₀ trace answers₀ t₀ i₀ dir answers t i = length trace - i
+
+no-tally-requires : tie.Need-no-tally-requires Inv-loop μ-loop
+no-tally-requires c κs = search needs
+
+loop-holds : tie.Need-loop-holds Inv-loop μ-loop
+loop-holds c =
+    let s = c .before .before .before .before in
+    (begins (s .args .dir .now) (s .args .trace .now) (s .args .answers .now) (s .pre .0) _ (c .no-tally .ensures), refl, refl)
+
+mul-step : tie.Need-mul-step Inv-loop μ-loop
+mul-step c = search needs
+
+shared-slice-read-step : tie.Need-shared-slice-read-step Inv-loop μ-loop
+shared-slice-read-step c = search needs
+
+mul-step-2 : tie.Need-mul-step-2 Inv-loop μ-loop
+mul-step-2 c = search needs
+
+step-requires : tie.Need-step-requires Inv-loop μ-loop
+step-requires c κs =
+    let m = c .before .before .before .before .loop .inv .0 in
+    (m .ready, (omega arith, within-small (m .within) (omega arith)))
+
+add-i : tie.Need-add-i Inv-loop μ-loop
+add-i c = search needs
+
+loop-less : tie.Need-loop-less Inv-loop μ-loop
+loop-less c = search needs
+
+loop-again : tie.Need-loop-again Inv-loop μ-loop
+loop-again c =
+    let t = c .before .before .before .before in
+    let l = t .before .before .before .before .before in
+    (goes-on _ _ _ (l .loop .inv .0) (omega arith) (t .step .ensures), omega arith, omega arith)
+
+same-length : tie.Need-same-length Inv-loop μ-loop
+same-length c = c .before .loop .inv .1
+
+same-length-2 : tie.Need-same-length-2 Inv-loop μ-loop
+same-length-2 c = c .before .loop .inv .2
+
+returns : tie.Need-returns Inv-loop μ-loop
+returns c = ends _ _ _ (c .before .loop .inv .0) (omega arith)
+
+pub replay-spec : {M : Type 1} → statement M
+replay-spec =
+    tie.close
+    (tie.spec
+    Inv-loop
+    μ-loop
+    no-tally-requires
+    loop-holds
+    mul-step
+    shared-slice-read-step
+    mul-step-2
+    step-requires
+    add-i
+    loop-less
+    loop-again
+    same-length
+    same-length-2
+    returns)

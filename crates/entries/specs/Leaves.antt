@@ -1,0 +1,74 @@
+-- What the leaves do to the words: w before, w′ after. Each is said of every way to take the words apart, or of every
+-- directory whose words they are, so that a caller names the parts or the directory and has the rest.
+use mathlib.Core.Path.{_≡_}
+use mathlib.Core.List.{List, _∷_, _++_}
+use Prim.Native.Nat.{ℕ, _+_, _*_, _≤_}
+use Rattle.figures.specs.Choice.{∣_∣}
+use Rattle.figures.specs.Entry.{Entry, cleared, without, dropHead, total, differ}
+use Rattle.figures.specs.Directory.{Directory, T1, T2, listOf, withList, toTail, placeNew, cached, remembered}
+use Rattle.figures.specs.Words.{flags, words, encode}
+use Rattle.figures.specs.Request.{hit}
+use Rattle.entries.specs.Stretches.{nameOf, index, ofFlag}
+
+-- The entry at word a becomes the last before word e, with flags f′.
+abbrev pub ToEnd : ℕ → ℕ → ℕ → List ℕ → List ℕ → Type 0
+ToEnd a e f′ w w′ =
+    (P M R : List ℕ) (h f : ℕ) → w ≡ P ++ (h ∷ f ∷ (M ++ R)) → ∣ P ∣ ≡ a → a + 2 + ∣ M ∣ ≡ e
+    → w′ ≡ P ++ (M ++ (h ∷ f′ ∷ R))
+
+-- An entry is put in at word a, and the last entry before word e falls out.
+abbrev pub PutIn : ℕ → ℕ → ℕ → ℕ → List ℕ → List ℕ → Type 0
+PutIn a e page f′ w w′ =
+    (P M R : List ℕ) (h f : ℕ) → w ≡ P ++ (M ++ (h ∷ f ∷ R)) → ∣ P ∣ ≡ a → a + ∣ M ∣ + 2 ≡ e
+    → w′ ≡ P ++ (page ∷ f′ ∷ (M ++ R))
+
+-- The entry at word a is taken out, and two zeros stand before word e.
+abbrev pub TakenOut : ℕ → ℕ → List ℕ → List ℕ → Type 0
+TakenOut a e w w′ =
+    (P M R : List ℕ) (h f : ℕ) → w ≡ P ++ (h ∷ f ∷ (M ++ R)) → ∣ P ∣ ≡ a → a + 2 + ∣ M ∣ ≡ e
+    → w′ ≡ P ++ (M ++ (0 ∷ 0 ∷ R))
+
+-- The head of list i, with flags f′, becomes the tail of list j.
+abbrev pub HeadMoved : ℕ → ℕ → ℕ → List ℕ → List ℕ → Type 0
+HeadMoved i j f′ w w′ =
+    (d : Directory) (e e′ : Entry) (es : List Entry) → encode d ≡ w → listOf (nameOf i) d ≡ e ∷ es
+    → e′ .page ≡ e .page → f′ ≡ flags e′
+    → w′ ≡ encode (toTail (nameOf j) e′ (withList (nameOf i) es d))
+
+-- T2's head, its bit cleared, becomes T1's tail.
+abbrev pub BorderMoved : List ℕ → List ℕ → Type 0
+BorderMoved w w′ =
+    (d : Directory) (e : Entry) (es : List Entry) → encode d ≡ w → d .t2 ≡ e ∷ es
+    → w′ ≡ encode (toTail T1 (cleared e) (withList T2 es d))
+
+-- A new page becomes T1's tail.
+abbrev pub PlacedNew : ℕ → List ℕ → List ℕ → Type 0
+PlacedNew page w w′ = (d : Directory) → encode d ≡ w → w′ ≡ encode (placeNew page d)
+
+-- Entry k of the history b, which is for page, becomes the tail of list t with flags f′.
+abbrev pub CameBack : ℕ → ℕ → ℕ → ℕ → ℕ → List ℕ → List ℕ → Type 0
+CameBack b k t page f′ w w′ =
+    (d : Directory) (e′ : Entry) → encode d ≡ w → k ≡ index page (listOf (nameOf b) d) → e′ .page ≡ page → f′ ≡ flags e′
+    → w′ ≡ encode (toTail (nameOf t) e′ (withList (nameOf b) (without page (listOf (nameOf b) d)) d))
+
+-- The head of the history b is dropped.
+abbrev pub HeadDropped : ℕ → List ℕ → List ℕ → Type 0
+HeadDropped b w w′ =
+    (d : Directory) → encode d ≡ w → cached d + remembered d ≤ 2 * d .c
+    → w′ ≡ encode (withList (nameOf b) (dropHead (listOf (nameOf b) d)) d)
+
+-- The reference bit of entry k of T1 and T2 together is set.
+abbrev pub Marked : ℕ → List ℕ → List ℕ → Type 0
+Marked k w w′ = (d : Directory) (x : ℕ) → encode d ≡ w → k ≡ index x (d .t1 ++ d .t2) → w′ ≡ encode (hit x d)
+
+-- What is so of every list of n entries that stands in the words from word a on.
+abbrev pub OfEntries : List ℕ → ℕ → ℕ → (List Entry → Type 0) → Type 0
+OfEntries w a n P = (before after : List ℕ) (l : List Entry) → w ≡ before ++ (words l ++ after) → ∣ before ∣ ≡ a → ∣ l ∣ ≡ n → P l
+
+-- Page x is found at k, where n is nowhere.
+abbrev pub FoundAt : List ℕ → ℕ → ℕ → ℕ → ℕ → Type 0
+FoundAt w a n x k = (k ≤ n) × OfEntries w a n (λ l. k ≡ index x l)
+
+-- So many entries have the flag.
+abbrev pub Counted : List ℕ → ℕ → ℕ → ℕ → ℕ → Type 0
+Counted w a n flag r = (r ≤ n) × OfEntries w a n (λ l. r ≡ total (ofFlag flag) l)
