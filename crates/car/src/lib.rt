@@ -1,17 +1,18 @@
 // CAR, Figure 2, in lent words: evict by choosing a clock and looking at its head, then trim and place.
 // The choice leads to a look, and a look at a set bit back to the choice; the set reference bits fall.
 ghost use mathlib.Core.Path.{_≡_};
-ghost use Prim.Native.Nat.{ℕ, _+_, _-_, _*_, _/_, _≤_, min, max};
-ghost use lib.ListN.{length, getD};
+ghost use Prim.Native.Nat.{_≤_};
+ghost use lib.ListN.{length};
 ghost use Rattle.figures.specs.Choice.{if_then_else_};
-ghost use Rattle.figures.specs.Directory.{Directory, unit, t1AtTarget};
-ghost use Rattle.figures.specs.Words.{encode, decode, nB1, nB2};
-ghost use Rattle.figures.specs.Hand.{Hand};
+ghost use Rattle.figures.specs.Directory.{t1AtTarget};
+ghost use Rattle.figures.specs.Words.{decode, nB1, nB2};
 ghost use Rattle.figures.specs.Car as Car;
 ghost use Rattle.figures.specs.Request.{carPolicy, missed};
-ghost use Rattle.entries.specs.Stretches.{Room, startOf};
+ghost use Rattle.entries.specs.Stretches.{Room};
+ghost use Rattle.entries.specs.Leaves.{Makes};
 ghost use Rattle.entries.specs.Answers.{Tells};
-ghost use Rattle.car.specs.Turning.{Full, Turning, Ended, Opened};
+ghost use Rattle.car.specs.Turning.{Full, Turning, EndsFrom, EvictedAs, Opened, PlacedAs};
+ghost use Rattle.car.specs.Turning.{raisedTarget, loweredTarget};
 use entries::lists;
 use entries::numbers;
 use entries::search;
@@ -27,7 +28,7 @@ pub struct Evicted {
 fn choose(dir: &mut [u32], moves: u32) -> Evicted
     requires { ⌜ Room (now dir) ⌝ }
     requires { ⌜ Turning (now dir) moves ⌝ }
-    ensures { λ r. ⌜ ((h : Hand) → encode (h .dir) ≡ now (dir .entry) → h .moves ≡ moves → Ended h (r .page) (r .list) (r .moves) (now (dir .exit))) ⌝ }
+    ensures { λ r. ⌜ EndsFrom moves (now (dir .entry)) (r .page) (r .list) (r .moves) (now (dir .exit)) ⌝ }
 {
     let p = numbers::greatest(entries::UNIT, dir[2]);
     let n = entries::UNIT * dir[4];
@@ -43,7 +44,7 @@ fn look(dir: &mut [u32], i: usize, moves: u32) -> Evicted
     requires { ⌜ Room (now dir) ⌝ }
     requires { ⌜ Turning (now dir) moves ⌝ }
     requires { ⌜ i ≡ (if t1AtTarget (decode (now dir)) then 0 else 1) ⌝ }
-    ensures { λ r. ⌜ ((h : Hand) → encode (h .dir) ≡ now (dir .entry) → h .moves ≡ moves → Ended h (r .page) (r .list) (r .moves) (now (dir .exit))) ⌝ }
+    ensures { λ r. ⌜ EndsFrom moves (now (dir .entry)) (r .page) (r .list) (r .moves) (now (dir .exit)) ⌝ }
 {
     let at = lists::start_of(dir, i);
     let page = dir[at];
@@ -64,7 +65,7 @@ fn look(dir: &mut [u32], i: usize, moves: u32) -> Evicted
 // Lines 22 to 39.
 pub fn evict(dir: &mut [u32]) -> Evicted
     requires { ⌜ Full (now dir) ⌝ }
-    ensures { λ r. ⌜ (r .page ≡ Car.evict (decode (now (dir .entry))) .page) × (r .list ≡ Car.evict (decode (now (dir .entry))) .list) × (r .moves ≡ Car.evict (decode (now (dir .entry))) .moves) × (now (dir .exit) ≡ encode (Car.evict (decode (now (dir .entry))) .dir)) ⌝ }
+    ensures { λ r. ⌜ EvictedAs (Car.evict (decode (now (dir .entry)))) (r .page) (r .list) (r .moves) (now (dir .exit)) ⌝ }
 {
     choose(dir, 0)
 }
@@ -73,7 +74,7 @@ pub fn evict(dir: &mut [u32]) -> Evicted
 fn trim(dir: &mut [u32])
     requires { ⌜ Room (now dir) ⌝ }
     requires { ⌜ Opened (now dir) ⌝ }
-    ensures { λ _. ⌜ ((d : Directory) → encode d ≡ now (dir .entry) → now (dir .exit) ≡ encode (Car.trim d)) ⌝ }
+    ensures { λ _. ⌜ Makes Car.trim (now (dir .entry)) (now (dir .exit)) ⌝ }
 {
     let c = dir[1];
     let n1 = dir[4];
@@ -91,7 +92,7 @@ fn trim(dir: &mut [u32])
 fn raised_target(dir: &[u32]) -> u32
     requires { ⌜ Opened (now dir) ⌝ }
     requires { ⌜ (8 ≤ length (now dir)) × (1 ≤ nB1 (now dir)) ⌝ }
-    ensures { λ r. ⌜ r ≡ min (getD (now (dir .entry)) 2 0 + max unit (unit * nB2 (now (dir .entry)) / nB1 (now (dir .entry)))) (unit * getD (now (dir .entry)) 1 0) ⌝ }
+    ensures { λ r. ⌜ r ≡ raisedTarget (now (dir .entry)) ⌝ }
 {
     let step = numbers::quotient(entries::UNIT * dir[7], dir[6]);
     numbers::least(
@@ -104,7 +105,7 @@ fn raised_target(dir: &[u32]) -> u32
 fn lowered_target(dir: &[u32]) -> u32
     requires { ⌜ Opened (now dir) ⌝ }
     requires { ⌜ (8 ≤ length (now dir)) × (1 ≤ nB2 (now dir)) ⌝ }
-    ensures { λ r. ⌜ r ≡ getD (now (dir .entry)) 2 0 - max unit (unit * nB1 (now (dir .entry)) / nB2 (now (dir .entry))) ⌝ }
+    ensures { λ r. ⌜ r ≡ loweredTarget (now (dir .entry)) ⌝ }
 {
     let step = numbers::quotient(entries::UNIT * dir[6], dir[7]);
     let step = numbers::greatest(entries::UNIT, step);
@@ -116,7 +117,7 @@ fn lowered_target(dir: &[u32]) -> u32
 fn place(dir: &mut [u32], page: u32) -> u32
     requires { ⌜ Room (now dir) ⌝ }
     requires { ⌜ Opened (now dir) ⌝ }
-    ensures { λ r. ⌜ ((h : Hand) → encode (h .dir) ≡ now (dir .entry) → (r ≡ missed carPolicy page h .kind) × (now (dir .exit) ≡ encode (missed carPolicy page h .dir))) ⌝ }
+    ensures { λ r. ⌜ PlacedAs page (now (dir .entry)) r (now (dir .exit)) ⌝ }
 {
     let k1 = lists::wide(dir[6]);
     let k2 = lists::wide(dir[7]);

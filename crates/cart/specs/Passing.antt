@@ -3,7 +3,7 @@
 use mathlib.Core.Path.{_≡_}
 use mathlib.Core.Bool.{true, _||_}
 use mathlib.Core.List.{List, [], _∷_}
-use Prim.Native.Nat.{ℕ, _+_, _*_, _≤_}
+use Prim.Native.Nat.{ℕ, _+_, _-_, _*_, _/_, _≤_, min, max}
 use lib.ListN.{getD}
 use lib.Dec.{ltb, eqb}
 use Rattle.figures.specs.Choice.{if_then_else_}
@@ -12,7 +12,10 @@ use Rattle.figures.specs.Directory.{unit, inCache}
 use Rattle.figures.specs.Words.{flags, encode, decode, size, nT1, nT2, nB1, nB2}
 use Rattle.figures.specs.Sound.{cart, sound}
 use Rattle.figures.specs.Hand.{Hand, Look, again, Ends}
-use Rattle.figures.specs.Cart.{cost}
+use Rattle.figures.specs.Cart.{cost, demotion}
+use Rattle.figures.specs.Request.{cartPolicy, missed}
+use Rattle.cart.specs.declared.Kept.{Kept}
+use Rattle.cart.specs.declared.Evicted.{Evicted}
 
 -- The flags of the head, and of an empty list those of a head that is S with its bit clear.
 abbrev pub headFlags : List Entry → ℕ
@@ -79,3 +82,40 @@ pub record Opened (w : List ℕ) (nS nL : ℕ) : Type 0 where
   pub history-most : nB1 w + nB2 w ≤ size w + 1
   pub shorts : nS ≤ nT1 w + nT2 w
   pub longs : nL ≤ nT1 w + nT2 w
+
+-- The same of the counts and the moves that the code keeps together.
+abbrev pub PassingWith : List ℕ → Kept → Type 0
+PassingWith w k = Passing w (k .short .0) (k .long .0) (k .moves)
+
+abbrev pub HoldsWith : Hand → List ℕ → Kept → Type 0
+HoldsWith h w k = Holds h w (k .short .0) (k .long .0) (k .moves)
+
+-- A pass from the words w, which hold any hand: its repeat ends at a hand that the words w′ hold.
+abbrev pub PassEnds : (Hand → Look) → List ℕ → Kept → List ℕ → Kept → Type 0
+PassEnds look w k w′ r = (h : Hand) → HoldsWith h w k → Ended look h w′ (r .short .0) (r .long .0) (r .moves)
+
+-- The demotion of any hand that the words w hold.
+abbrev pub DemotedAs : List ℕ → Kept → List ℕ → Evicted → Type 0
+DemotedAs w k w′ r =
+    (h : Hand) → HoldsWith h w k → (r .page ≡ demotion h .page) × (r .list ≡ demotion h .list) × HoldsWith (demotion h) w′ (r .kept)
+
+-- The evicted page, its list, and what is kept, are those of hand z.
+abbrev pub EvictedAs : Hand → List ℕ → Evicted → Type 0
+EvictedAs z w r = (r .page ≡ z .page) × (r .list ≡ z .list) × HoldsWith z w (r .kept)
+
+-- q may be raised: no sum or difference of the test leaves its range.
+abbrev pub Raisable : List ℕ → ℕ → Type 0
+Raisable w nS = (size w ≤ 1024) × (getD w 3 0 ≤ 2048) × (nT1 w ≤ size w) × (nS ≤ nT1 w + nT2 w)
+
+-- The kind and the words are those of the request, whichever hand with these counts the words w hold.
+abbrev pub PlacedAs : ℕ → ℕ → ℕ → List ℕ → ℕ → List ℕ → Type 0
+PlacedAs page nS nL w kind w′ =
+    (h : Hand) → encode (h .dir) ≡ w → nS ≡ h .nS → nL ≡ h .nL
+    → (kind ≡ missed cartPolicy page h .kind) × (w′ ≡ encode (missed cartPolicy page h .dir))
+
+-- Lines 15 and 18, on the words.
+abbrev pub raisedTarget : ℕ → List ℕ → ℕ
+raisedTarget nS w = min (getD w 2 0 + max unit (unit * nS / nB1 w)) (unit * size w)
+
+abbrev pub loweredTarget : ℕ → List ℕ → ℕ
+loweredTarget nL w = getD w 2 0 - max unit (unit * nL / nB2 w)

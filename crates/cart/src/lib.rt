@@ -12,8 +12,10 @@ ghost use Rattle.figures.specs.Hand.{Hand};
 ghost use Rattle.figures.specs.Cart as Cart;
 ghost use Rattle.figures.specs.Request.{cartPolicy, missed};
 ghost use Rattle.entries.specs.Stretches.{Room, nameOf};
+ghost use Rattle.entries.specs.Leaves.{Makes};
 ghost use Rattle.entries.specs.Answers.{Tells};
-ghost use Rattle.cart.specs.Passing.{Full, Passing, Holds, Looked, Ended, Opened, headFlags, oldestList};
+ghost use Rattle.cart.specs.Passing.{Full, PassingWith, Looked, PassEnds, DemotedAs, EvictedAs, Raisable};
+ghost use Rattle.cart.specs.Passing.{Opened, PlacedAs, headFlags, oldestList, raisedTarget, loweredTarget};
 use entries::lists;
 use entries::numbers;
 use entries::search;
@@ -55,8 +57,8 @@ fn head_flags(dir: &[u32], i: usize) -> u32
 // "Raise q", lines 20 and 25.
 fn raise(dir: &mut [u32], short: ShortCount)
     requires { ⌜ Room (now dir) ⌝ }
-    requires { ⌜ (getD (now dir) 1 0 ≤ 1024) × (getD (now dir) 3 0 ≤ 2048) × (nT1 (now dir) ≤ getD (now dir) 1 0) × (short .0 ≤ nT1 (now dir) + nT2 (now dir)) ⌝ }
-    ensures { λ _. ⌜ ((d : Directory) → encode d ≡ now (dir .entry) → now (dir .exit) ≡ encode (Cart.raise (short .0) d)) ⌝ }
+    requires { ⌜ Raisable (now dir) (short .0) ⌝ }
+    ensures { λ _. ⌜ Makes (Cart.raise (short .0)) (now (dir .entry)) (now (dir .exit)) ⌝ }
 {
     let c = dir[1];
     let n1 = dir[4];
@@ -71,7 +73,7 @@ fn raise(dir: &mut [u32], short: ShortCount)
 // Line 33: T1 has lost a page to T2.
 fn lower(dir: &mut [u32])
     requires { ⌜ (8 ≤ length (now dir)) × (nT1 (now dir) ≤ getD (now dir) 1 0) ⌝ }
-    ensures { λ _. ⌜ ((d : Directory) → encode d ≡ now (dir .entry) → now (dir .exit) ≡ encode (Cart.lower d)) ⌝ }
+    ensures { λ _. ⌜ Makes Cart.lower (now (dir .entry)) (now (dir .exit)) ⌝ }
 {
     let q = dir[3];
     let less = if q == 0 { 0 } else { q - 1 };
@@ -81,8 +83,8 @@ fn lower(dir: &mut [u32])
 // Lines 23 to 26, the first pass.
 fn first_pass(dir: &mut [u32], kept: Kept) -> Kept
     requires { ⌜ Room (now dir) ⌝ }
-    requires { ⌜ Passing (now dir) (kept .short .0) (kept .long .0) (kept .moves) ⌝ }
-    ensures { λ r. ⌜ Passing (now (dir .exit)) (r .short .0) (r .long .0) (r .moves) × ((h : Hand) → Holds h (now (dir .entry)) (kept .short .0) (kept .long .0) (kept .moves) → Ended Cart.firstLook h (now (dir .exit)) (r .short .0) (r .long .0) (r .moves)) ⌝ }
+    requires { ⌜ PassingWith (now dir) kept ⌝ }
+    ensures { λ r. ⌜ PassingWith (now (dir .exit)) r × PassEnds Cart.firstLook (now (dir .entry)) kept (now (dir .exit)) r ⌝ }
 {
     let short = kept.short;
     let long = kept.long;
@@ -109,7 +111,7 @@ fn becomes_long(dir: &[u32]) -> bool
 // Lines 28 to 33: T1's head, whose flags are f and which is L or has its bit set.
 fn turn(dir: &mut [u32], f: u32, kept: Kept) -> Kept
     requires { ⌜ Room (now dir) ⌝ }
-    requires { ⌜ Passing (now dir) (kept .short .0) (kept .long .0) (kept .moves) ⌝ }
+    requires { ⌜ PassingWith (now dir) kept ⌝ }
     requires { ⌜ (f ≡ headFlags (decode (now dir) .t1)) × (1 ≤ f) ⌝ }
     ensures { λ r. ⌜ Looked Cart.secondLook (now (dir .entry)) (kept .short .0) (kept .long .0) (kept .moves) (now (dir .exit)) (r .short .0) (r .long .0) (r .moves) ⌝ }
 {
@@ -138,8 +140,8 @@ fn turn(dir: &mut [u32], f: u32, kept: Kept) -> Kept
 // Lines 27 to 35, the second pass.
 fn second_pass(dir: &mut [u32], kept: Kept) -> Kept
     requires { ⌜ Room (now dir) ⌝ }
-    requires { ⌜ Passing (now dir) (kept .short .0) (kept .long .0) (kept .moves) ⌝ }
-    ensures { λ r. ⌜ Passing (now (dir .exit)) (r .short .0) (r .long .0) (r .moves) × (headFlags (decode (now (dir .exit)) .t1) ≡ 0) × ((h : Hand) → Holds h (now (dir .entry)) (kept .short .0) (kept .long .0) (kept .moves) → Ended Cart.secondLook h (now (dir .exit)) (r .short .0) (r .long .0) (r .moves)) ⌝ }
+    requires { ⌜ PassingWith (now dir) kept ⌝ }
+    ensures { λ r. ⌜ PassingWith (now (dir .exit)) r × (headFlags (decode (now (dir .exit)) .t1) ≡ 0) × PassEnds Cart.secondLook (now (dir .entry)) kept (now (dir .exit)) r ⌝ }
 {
     let mut now = kept;
     let mut f = head_flags(dir, 0);
@@ -153,9 +155,9 @@ fn second_pass(dir: &mut [u32], kept: Kept) -> Kept
 // Lines 36 to 40, the demotion.
 fn demote(dir: &mut [u32], kept: Kept) -> Evicted
     requires { ⌜ Room (now dir) ⌝ }
-    requires { ⌜ Passing (now dir) (kept .short .0) (kept .long .0) (kept .moves) ⌝ }
+    requires { ⌜ PassingWith (now dir) kept ⌝ }
     requires { ⌜ headFlags (decode (now dir) .t1) ≡ 0 ⌝ }
-    ensures { λ r. ⌜ ((h : Hand) → Holds h (now (dir .entry)) (kept .short .0) (kept .long .0) (kept .moves) → (r .page ≡ Cart.demotion h .page) × (r .list ≡ Cart.demotion h .list) × Holds (Cart.demotion h) (now (dir .exit)) (r .kept .short .0) (r .kept .long .0) (r .kept .moves)) ⌝ }
+    ensures { λ r. ⌜ DemotedAs (now (dir .entry)) kept (now (dir .exit)) r ⌝ }
 {
     let short = kept.short;
     let long = kept.long;
@@ -196,7 +198,7 @@ fn demote(dir: &mut [u32], kept: Kept) -> Evicted
 // Lines 23 to 40.
 pub fn evict(dir: &mut [u32]) -> Evicted
     requires { ⌜ Full (now dir) ⌝ }
-    ensures { λ r. ⌜ (r .page ≡ Cart.evict (decode (now (dir .entry))) .page) × (r .list ≡ Cart.evict (decode (now (dir .entry))) .list) × Holds (Cart.evict (decode (now (dir .entry)))) (now (dir .exit)) (r .kept .short .0) (r .kept .long .0) (r .kept .moves) ⌝ }
+    ensures { λ r. ⌜ EvictedAs (Cart.evict (decode (now (dir .entry)))) (now (dir .exit)) r ⌝ }
 {
     let n = dir[4] + dir[5];
     let longs = search::count(dir, 8, lists::wide(n), 2);
@@ -224,7 +226,7 @@ fn oldest(q: u32, k1: u32, k2: u32) -> usize
 fn trim(dir: &mut [u32])
     requires { ⌜ Room (now dir) ⌝ }
     requires { ⌜ (getD (now dir) 1 0 ≤ 1024) × (nT1 (now dir) + nT2 (now dir) + 1 ≤ getD (now dir) 1 0) × (nB1 (now dir) + nB2 (now dir) ≤ getD (now dir) 1 0 + 1) ⌝ }
-    ensures { λ _. ⌜ ((d : Directory) → encode d ≡ now (dir .entry) → now (dir .exit) ≡ encode (Cart.trim d)) ⌝ }
+    ensures { λ _. ⌜ Makes Cart.trim (now (dir .entry)) (now (dir .exit)) ⌝ }
 {
     let c = dir[1];
     let k1 = dir[6];
@@ -238,7 +240,7 @@ fn trim(dir: &mut [u32])
 // Line 15: the target that a page found in B1 asks for.
 fn raised_target(dir: &[u32], short: ShortCount) -> u32
     requires { ⌜ (8 ≤ length (now dir)) × (1 ≤ nB1 (now dir)) × (short .0 ≤ 1024) × (getD (now dir) 1 0 ≤ 1024) × (getD (now dir) 2 0 ≤ unit * 1024) ⌝ }
-    ensures { λ r. ⌜ r ≡ min (getD (now (dir .entry)) 2 0 + max unit (unit * short .0 / nB1 (now (dir .entry)))) (unit * getD (now (dir .entry)) 1 0) ⌝ }
+    ensures { λ r. ⌜ r ≡ raisedTarget (short .0) (now (dir .entry)) ⌝ }
 {
     let step = numbers::quotient(entries::UNIT * short.0, dir[6]);
     numbers::least(
@@ -250,7 +252,7 @@ fn raised_target(dir: &[u32], short: ShortCount) -> u32
 // Line 18: the target that a page found in B2 asks for.
 fn lowered_target(dir: &[u32], long: LongCount) -> u32
     requires { ⌜ (8 ≤ length (now dir)) × (1 ≤ nB2 (now dir)) × (long .0 ≤ 1024) ⌝ }
-    ensures { λ r. ⌜ r ≡ getD (now (dir .entry)) 2 0 - max unit (unit * long .0 / nB2 (now (dir .entry))) ⌝ }
+    ensures { λ r. ⌜ r ≡ loweredTarget (long .0) (now (dir .entry)) ⌝ }
 {
     let step = numbers::quotient(entries::UNIT * long.0, dir[7]);
     let step = numbers::greatest(entries::UNIT, step);
@@ -262,7 +264,7 @@ fn lowered_target(dir: &[u32], long: LongCount) -> u32
 fn place(dir: &mut [u32], page: u32, short: ShortCount, long: LongCount) -> u32
     requires { ⌜ Room (now dir) ⌝ }
     requires { ⌜ Opened (now dir) (short .0) (long .0) ⌝ }
-    ensures { λ r. ⌜ ((h : Hand) → encode (h .dir) ≡ now (dir .entry) → short .0 ≡ h .nS → long .0 ≡ h .nL → (r ≡ missed cartPolicy page h .kind) × (now (dir .exit) ≡ encode (missed cartPolicy page h .dir))) ⌝ }
+    ensures { λ r. ⌜ PlacedAs page (short .0) (long .0) (now (dir .entry)) r (now (dir .exit)) ⌝ }
 {
     let k1 = lists::wide(dir[6]);
     let k2 = lists::wide(dir[7]);

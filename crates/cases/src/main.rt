@@ -25,7 +25,7 @@ fn show_number(mark: &[u8], n: u32) {
 }
 
 fn show_words(dir: &[u32]) {
-    io::write_all(1, b"  dir");
+    io::write_all(1, b"  words");
     let mut i = 0;
     while i < dir.len() {
         space_and(dir[i]);
@@ -175,6 +175,65 @@ fn broken_rules() {
     broken(b"an S page in B2", &mut two, 15, 0);
 }
 
+// A mark, then a run's answer: its number, then requests, hits, misses, evictions and moves.
+fn show_run(mark: &[u8], r: directory::Ran) {
+    let t = r.tally;
+    io::write_all(1, mark);
+    space_and(r.number);
+    space_and(t.requests);
+    space_and(t.hits);
+    space_and(t.misses);
+    space_and(t.evictions);
+    space_and(t.moves);
+    io::write_all(1, b"\n");
+}
+
+// The worked run of document 01. The last word of the answers stays.
+fn worked_run(mark: &[u8], policy: u32) {
+    let mut two = [0u32; 16];
+    let mut answers = [9u32; 33];
+    let trace = [1u32, 2, 1, 3, 2, 1, 4, 2];
+    directory::fresh(policy, 2, &mut two);
+    show_run(mark, directory::run(&mut two, &trace, &mut answers));
+    show_words(&two);
+    show_words(&answers);
+}
+
+// 1,000 pages are taken, 1,001 refused; a damaged directory is refused first.
+fn runs_at_the_ends() {
+    let mut two = [0u32; 16];
+    let mut damaged = [1u32, 2, 3, 0, 0, 0, 0, 0, 0, 0, 0, 0, 0, 0, 0, 0];
+    let none = [0u32; 0];
+    let most = [7u32; 1000];
+    let many = [7u32; 1001];
+    let mut answers = [0u32; 4000];
+    let mut short = [0u32; 3999];
+    let mut empty = [0u32; 0];
+    directory::fresh(1, 2, &mut two);
+    show_run(
+        b"run of no page",
+        directory::run(&mut two, &none, &mut empty),
+    );
+    show_run(
+        b"run of 1001 pages",
+        directory::run(&mut two, &many, &mut empty),
+    );
+    show_run(
+        b"run of 1001 pages, damaged",
+        directory::run(&mut damaged, &many, &mut empty),
+    );
+    show_run(
+        b"run of 1000 pages, a word short",
+        directory::run(&mut two, &most, &mut short),
+    );
+    show_words(&two);
+    show_run(
+        b"run of 1000 pages",
+        directory::run(&mut two, &most, &mut answers),
+    );
+    show_words(&two);
+}
+
 fn main() {
     worked_cases();
     pages_at_the_ends();
@@ -183,4 +242,7 @@ fn main() {
     sizes_of_a_checked_directory();
     words_out_of_range();
     broken_rules();
+    worked_run(b"worked run, CAR", 1);
+    worked_run(b"worked run, CART", 2);
+    runs_at_the_ends();
 }

@@ -5,10 +5,14 @@ use mathlib.Core.List.{List, _∷_, _++_}
 use Prim.Native.Nat.{ℕ, _+_, _*_, _≤_}
 use Rattle.figures.specs.Choice.{∣_∣}
 use Rattle.figures.specs.Entry.{Entry, cleared, without, dropHead, total, differ}
-use Rattle.figures.specs.Directory.{Directory, T1, T2, listOf, withList, toTail, placeNew, cached, remembered}
+use Rattle.figures.specs.Directory.{Directory, T1, T2, listOf, withList, toTail, cached, remembered}
 use Rattle.figures.specs.Words.{flags, words, encode}
 use Rattle.figures.specs.Request.{hit}
 use Rattle.entries.specs.Stretches.{nameOf, index, ofFlag}
+
+-- The words of a directory become those of what f makes of it.
+abbrev pub Makes : (Directory → Directory) → List ℕ → List ℕ → Type 0
+Makes f w w′ = (d : Directory) → encode d ≡ w → w′ ≡ encode (f d)
 
 -- The entry at word a becomes the last before word e, with flags f′.
 abbrev pub ToEnd : ℕ → ℕ → ℕ → List ℕ → List ℕ → Type 0
@@ -40,10 +44,6 @@ abbrev pub BorderMoved : List ℕ → List ℕ → Type 0
 BorderMoved w w′ =
     (d : Directory) (e : Entry) (es : List Entry) → encode d ≡ w → d .t2 ≡ e ∷ es
     → w′ ≡ encode (toTail T1 (cleared e) (withList T2 es d))
-
--- A new page becomes T1's tail.
-abbrev pub PlacedNew : ℕ → List ℕ → List ℕ → Type 0
-PlacedNew page w w′ = (d : Directory) → encode d ≡ w → w′ ≡ encode (placeNew page d)
 
 -- Entry k of the history b, which is for page, becomes the tail of list t with flags f′.
 abbrev pub CameBack : ℕ → ℕ → ℕ → ℕ → ℕ → List ℕ → List ℕ → Type 0

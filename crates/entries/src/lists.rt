@@ -3,8 +3,9 @@
 ghost use mathlib.Core.Path.{_≡_};
 ghost use Prim.Native.Nat.{_+_, _≤_, _<_};
 ghost use lib.ListN.{length, getD};
+ghost use Rattle.figures.specs.Directory.{placeNew};
 ghost use Rattle.entries.specs.Stretches.{Room, startOf};
-ghost use Rattle.entries.specs.Leaves.{HeadMoved, BorderMoved, PlacedNew, CameBack, HeadDropped, Marked};
+ghost use Rattle.entries.specs.Leaves.{Makes, HeadMoved, BorderMoved, CameBack, HeadDropped, Marked};
 use crate::stretch;
 
 pub fn wide(x: u32) -> usize
@@ -67,7 +68,7 @@ pub fn t2_head_to_t1(dir: &mut [u32])
 pub fn place_new(dir: &mut [u32], page: u32)
     requires { ⌜ Room (now dir) ⌝ }
     requires { ⌜ startOf 4 (now dir) + 2 ≤ length (now dir) ⌝ }
-    ensures { λ _. ⌜ PlacedNew page (now (dir .entry)) (now (dir .exit)) ⌝ }
+    ensures { λ _. ⌜ Makes (placeNew page) (now (dir .entry)) (now (dir .exit)) ⌝ }
 {
     let a = start_of(dir, 1);
     let e = start_of(dir, 4);

@@ -1,13 +1,11 @@
 // What the words of a list hold: where a page stands, how many entries have a flag, whether flags and pages are in order.
 // Nothing is written.
 ghost use mathlib.Core.Path.{_≡_};
-ghost use Prim.Native.Nat.{ℕ, _+_, _*_, _≤_, _<_};
-ghost use mathlib.Core.List.{List, _++_};
+ghost use Prim.Native.Nat.{_+_, _*_, _≤_};
 ghost use lib.ListN.{length, take, drop};
-ghost use Rattle.figures.specs.Entry.{Entry, total, differ};
-ghost use Rattle.figures.specs.Words.{words};
+ghost use Rattle.figures.specs.Entry.{differ};
 ghost use Rattle.figures.specs.Sound.{allAtMost, flagWords};
-ghost use Rattle.entries.specs.Stretches.{index, ofFlag};
+ghost use Rattle.entries.specs.Leaves.{OfEntries, FoundAt, Counted};
 
 // The place of the first of the n entries from word a on that is for page, or n.
 pub fn find(dir: &[u32], a: usize, n: usize, page: u32) -> usize
