@@ -8,15 +8,17 @@ use native.Mathlib.Omega.{arith}
 use lib.ListN.{getD}
 use Rattle.figures.specs.Choice.{if_then_else_}
 use Rattle.figures.specs.Entry.{Entry, cleared, bits}
-use Rattle.figures.specs.Directory.{Directory, T1, T2, B1, B2, listOf, withList, toTail, inCache, t1AtTarget}
-use Rattle.figures.specs.Words.{flags, encode, decode}
+use Rattle.figures.specs.Directory.{Directory, T1, T2, B1, B2, listOf, inCache, t1AtTarget}
+use Rattle.figures.specs.Words.{encode, decode}
 use Rattle.figures.specs.Hand.{Hand, listWord, turn, demote, again, stop, last, next}
 use Rattle.figures.specs.Car.{look, choose}
 use Rattle.entries.specs.Stretches.{Room, nameOf, startOf}
+use Rattle.figures.proofs.Encoding.{decoded}
 use Rattle.entries.proofs.Laid.{flags-cleared}
+use Rattle.entries.proofs.Heads.{HeadAt, HeadMoved}
 use Rattle.car.specs.Turning.{Turning, Ended}
-use Rattle.car.proofs.Readiness.{ready, turning, with-room, decoded, turned, turned-ready}
-use Rattle.car.proofs.Heads.{bit-set, bit-clear, chosenList, Head, first-two, chosen-here, head-of}
+use Rattle.car.proofs.Readiness.{ready, turning, with-room, turned, turned-ready}
+use Rattle.car.proofs.Heads.{bit-set, bit-clear, chosenList, first-two, chosen-here, head-of}
 
 -- What the definition's look comes to, at the head e of list i.
 
@@ -44,12 +46,6 @@ list-word zero h = refl
 list-word (suc zero) h = refl
 list-word (suc (suc i)) h = absurd (omega arith)
 
--- What `move_head` says of the words before and after.
-abbrev pub Moved : List ℕ → List ℕ → ℕ → ℕ → ℕ → Type 0
-Moved w L i j f =
-    (d : Directory) (e e′ : Entry) (es : List Entry) → encode d ≡ w → listOf (nameOf i) d ≡ e ∷ es → e′ .page ≡ e .page
-    → f ≡ flags e′ → L ≡ encode (toTail (nameOf j) e′ (withList (nameOf i) es d))
-
 -- Words that may be looked at again, with a set bit less than w.
 pub record Again (w L : List ℕ) (moves : ℕ) : Type 0 where
   pub fewer-bits : inCache bits (decode L) < inCache bits (decode w)
@@ -58,29 +54,29 @@ pub record Again (w L : List ℕ) (moves : ℕ) : Type 0 where
 
 -- The look at the head of list i, which starts at word a.
 module _ {moves i a : ℕ} {w L : List ℕ} (t : Turning w moves) (choice : i ≡ chosenList (decode w)) (at : a ≡ startOf i w) where
-  module _ (odd : getD w (a + 1) 0 % 2 ≡ 1) (moved : Moved w L i 1 (getD w (a + 1) 0 - 1)) where
+  module _ (odd : getD w (a + 1) 0 % 2 ≡ 1) (moved : HeadMoved i 1 (getD w (a + 1) 0 - 1) w L) where
     record Turned (d : Directory) : Type 0 where
-      head : Head i a d w
-      set : head .e .bit ≡ true
-      words-are : encode (turned i (head .e) (head .es) d) ≡ L
+      here : HeadAt i a d w
+      set : here .head .bit ≡ true
+      words-are : encode (turned i (here .head) (here .rest) d) ≡ L
 
     turn-of : (d : Directory) → encode d ≡ w → Turned d
     turn-of d is =
         let x = head-of t choice d is at in
-        let new = flags-cleared (x .e) _ (x .flags-word) in
+        let new = flags-cleared (x .head) _ (x .flags-word) in
         record {
-          head = x;
-          set = bit-set (x .e) _ (x .flags-word) odd;
-          words-are = sym (moved d (x .e) (cleared (x .e)) (x .es) is (x .front) refl (omega arith));
+          here = x;
+          set = bit-set (x .head) _ (x .flags-word) odd;
+          words-are = sym (moved d (x .head) (cleared (x .head)) (x .rest) is (x .front) refl (omega arith));
         }
 
     pub again-asks : Again w L (moves + 1)
     again-asks =
         let x = turn-of (decode w) (t .is) in
-        let d′ = turned i (x .head .e) (x .head .es) (decode w) in
-        let r = turned-ready i (decode w) _ _ (first-two t choice) (x .head .front) (x .set) (ready (decode w) w (t .is) t) in
+        let d′ = turned i (x .here .head) (x .here .rest) (decode w) in
+        let r = turned-ready i (decode w) _ _ (first-two t choice) (x .here .front) (x .set) (ready (decode w) w (t .is) t) in
         record {
-          fewer-bits = rw (decoded d′ L (x .words-are)) (r .1);
+          fewer-bits = rw (decoded d′ (x .words-are)) (r .1);
           room = with-room d′ L (x .words-are) (r .0);
           turns-on = turning d′ L (x .words-are) (r .0);
         }
@@ -89,26 +85,26 @@ module _ {moves i a : ℕ} {w L : List ℕ} (t : Turning w moves) (choice : i �
         → ((h : Hand) → encode (h .dir) ≡ L → h .moves ≡ moves + 1 → Ended h page list more W) → Ended h page list more W
     again-ends h is count rest =
         let x = turn-of (h .dir) is in
-        let r = rest (turn (nameOf i) T2 cleared (x .head .e) (x .head .es) h) (x .words-are) (omega arith) in
+        let r = rest (turn (nameOf i) T2 cleared (x .here .head) (x .here .rest) h) (x .words-are) (omega arith) in
         record {
           at = r .at;
-          ends = next (looks-again i h _ _ (chosen-here t choice (h .dir) is) (x .head .front) (x .set)) (r .ends);
+          ends = next (looks-again i h _ _ (chosen-here t choice (h .dir) is) (x .here .front) (x .set)) (r .ends);
           page-is = r .page-is;
           list-is = r .list-is;
           moves-is = r .moves-is;
           words-are = r .words-are;
         }
 
-  pub stop-ends : (getD w (a + 1) 0 % 2 ≡ 1 → ⊥) → Moved w L i (i + 2) (getD w (a + 1) 0)
+  pub stop-ends : (getD w (a + 1) 0 % 2 ≡ 1 → ⊥) → HeadMoved i (i + 2) (getD w (a + 1) 0) w L
       → (h : Hand) → encode (h .dir) ≡ w → h .moves ≡ moves → Ended h (getD w a 0) (i + 1) (moves + 1) L
   stop-ends even moved h is count =
       let x = head-of t choice (h .dir) is at in
-      let clear = bit-clear (x .e) _ (x .flags-word) even in
+      let clear = bit-clear (x .head) _ (x .flags-word) even in
       record {
-        at = demote (nameOf i) (nameOf (i + 2)) (x .e) (x .es) h;
+        at = demote (nameOf i) (nameOf (i + 2)) (x .head) (x .rest) h;
         ends = last (looks-stop i h _ _ (chosen-here t choice (h .dir) is) (x .front) clear);
         page-is = x .page-word;
         list-is = list-word i (first-two t choice);
         moves-is = omega arith;
-        words-are = moved (h .dir) (x .e) (x .e) (x .es) is (x .front) refl (x .flags-word);
+        words-are = moved (h .dir) (x .head) (x .head) (x .rest) is (x .front) refl (x .flags-word);
       }

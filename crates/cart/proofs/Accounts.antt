@@ -1,31 +1,24 @@
 -- What Passing says of words, said of the directory that they hold, and that every move of the passes keeps it.
 -- A move lowers what the cache may still cost by one at least. Assumes nothing.
-use mathlib.Core.Path.{_≡_, refl, sym, ap, _∙_}
+use mathlib.Core.Path.{_≡_}
 use mathlib.Core.Bool.{true, false}
 use mathlib.Core.List.{List, [], _∷_, _++_}
 use Prim.Native.Nat.{ℕ, _+_, _-_, _*_, _≤_, min}
 use native.Mathlib.Omega.{arith}
 use lib.Dec.{leb}
 use Rattle.figures.specs.Choice.{∣_∣}
-use Rattle.figures.specs.Entry.{Entry, Filter, S, L, cleared, bits, shortOf, longOf, short, long, total}
+use Rattle.figures.specs.Entry.{Entry, Filter, L, cleared, bits, shortOf, longOf, short, long, total}
 use Rattle.figures.specs.Directory.{Directory, unit, T1, T2, withList, withQ, toTail, cached, remembered, inCache}
 use Rattle.figures.specs.Words.{nT1, nT2, encode, decode}
 use Rattle.figures.specs.Cart.{cost, raise, lower}
-use Rattle.figures.proofs.Lists.{either, entryOf, length-tail, total-tail}
-use Rattle.figures.proofs.Encoding.{decode-encode}
+use Rattle.figures.proofs.Lists.{either, entryOf, length-tail, total-tail, short-or-long, short-and-long}
+use Rattle.figures.proofs.Encoding.{decoded}
 use Rattle.figures.proofs.Cart.{owing}
 use Rattle.entries.specs.Stretches.{Room}
-use Rattle.entries.proofs.Indexes.{roomy}
+use Rattle.entries.proofs.Laid.{header}
+use Rattle.entries.proofs.Rooms.{roomy}
 use Rattle.cart.specs.Passing.{headFlags, Passing}
-use Rattle.cart.proofs.FirstWords.{read, some-flags}
-
-pub short-or-long : (f : Filter) → shortOf f + longOf f ≡ 1
-short-or-long S = refl
-short-or-long L = refl
-
-pub shorts-and-longs : (l : List Entry) → total short l + total long l ≡ ∣ l ∣
-shorts-and-longs [] = refl
-shorts-and-longs (e ∷ l) = omega (arith, shorts-and-longs l, short-or-long (e .filter))
+use Rattle.cart.proofs.FirstWords.{some-flags}
 
 -- A head that is S counts among the S pages.
 short-head : (l : List Entry) → 1 ≤ ∣ l ∣ → headFlags l ≤ 1 → 1 ≤ total short l
@@ -46,15 +39,12 @@ pub record Accounts (d : Directory) (nS nL moves : ℕ) : Type 0 where
   pub left : moves + owing d ≤ 2048
 
 pub accounts : {w : List ℕ} {nS nL moves : ℕ} → Passing w nS nL moves → Accounts (decode w) nS nL moves
-accounts {w} p = let r = read (decode w) (p .is) in omega arith
-
-pub held-by : (d : Directory) {w : List ℕ} → encode d ≡ w → decode w ≡ d
-held-by d is = ap decode (sym is) ∙ decode-encode d
+accounts {w} p = let r = header (decode w) w (p .is) in omega arith
 
 pub passing : (d : Directory) {w : List ℕ} {nS nL moves : ℕ} → encode d ≡ w → Accounts d nS nL moves → Passing w nS nL moves
 passing d {w} is a =
-    let r = read d is in
-    let same = held-by d is in
+    let r = header d w is in
+    let same = decoded d is in
     record {
       is = rw same is;
       c-least = omega arith;
@@ -71,22 +61,22 @@ passing d {w} is a =
 
 -- What the code's steps need of words that are Passing.
 pub passing-room : {w : List ℕ} {nS nL moves : ℕ} → Passing w nS nL moves → Room w
-passing-room {w} p = let a = accounts p in rw (p .is) at (roomy (decode w) (omega arith) (omega arith))
+passing-room {w} p = let a = accounts p in roomy (decode w) (p .is) (omega arith) (omega arith)
 
 pub t1-some : {w : List ℕ} {nS nL moves : ℕ} → Passing w nS nL moves → 1 ≤ headFlags (decode w .t1) → 1 ≤ nT1 w
-t1-some {w} p some = omega (arith, read (decode w) (p .is), some-flags (decode w .t1) some)
+t1-some {w} p some = omega (arith, header (decode w) w (p .is), some-flags (decode w .t1) some)
 
 pub t2-some : {w : List ℕ} {nS nL moves : ℕ} → Passing w nS nL moves → 1 ≤ headFlags (decode w .t2) → 1 ≤ nT2 w
-t2-some {w} p some = omega (arith, read (decode w) (p .is), some-flags (decode w .t2) some)
+t2-some {w} p some = omega (arith, header (decode w) w (p .is), some-flags (decode w .t2) some)
 
 pub counts-cached : {w : List ℕ} {nS nL moves : ℕ} → Passing w nS nL moves → nS + nL ≡ nT1 w + nT2 w
-counts-cached {w} p = omega (arith, read (decode w) (p .is), shorts-and-longs (decode w .t1), shorts-and-longs (decode w .t2))
+counts-cached {w} p = omega (arith, header (decode w) w (p .is), short-and-long (decode w .t1), short-and-long (decode w .t2))
 
 pub short-counted : {w : List ℕ} {nS nL moves : ℕ} → Passing w nS nL moves → 1 ≤ nT1 w → headFlags (decode w .t1) ≤ 1 → 1 ≤ nS
-short-counted {w} p some h = let r = read (decode w) (p .is) in omega (arith, short-head (decode w .t1) (omega arith) h)
+short-counted {w} p some h = let r = header (decode w) w (p .is) in omega (arith, short-head (decode w .t1) (omega arith) h)
 
 pub long-counted : {w : List ℕ} {nS nL moves : ℕ} → Passing w nS nL moves → 1 ≤ nT2 w → 1 ≤ nL
-long-counted {w} p some = omega (arith, read (decode w) (p .is), shorts-and-longs (decode w .t2))
+long-counted {w} p some = omega (arith, header (decode w) w (p .is), short-and-long (decode w .t2))
 
 -- The moves, and the changes of q.
 module _ (d : Directory) {nS nL moves : ℕ} where

@@ -6,18 +6,16 @@ use mathlib.Core.List.{List, _∷_}
 use Prim.Native.Nat.{ℕ, _+_, _-_, _*_, _≤_, _<_, max}
 use native.Mathlib.Omega.{arith}
 use lib.ListN.{getD}
-use borrow.Author.Tests.{le-leb, lt-leb}
-use Rattle.figures.specs.Choice.{∣_∣}
 use Rattle.figures.specs.Entry.{Entry}
 use Rattle.figures.specs.Directory.{Directory, unit, T1, T2, B1, B2, t1AtTarget}
 use Rattle.figures.specs.Words.{flags, nT1, nT2, decode}
 use Rattle.figures.specs.Hand.{Hand, withCounts, demote}
 use Rattle.figures.specs.Cart.{demotion}
+use Rattle.figures.proofs.Encoding.{decoded}
 use Rattle.entries.specs.Stretches.{startOf}
+use Rattle.entries.proofs.Laid.{header}
+use Rattle.entries.proofs.Heads.{at-target, under-target, head-at, HeadMoved}
 use Rattle.cart.specs.Passing.{headFlags, Holds}
-use Rattle.cart.proofs.FirstWords.{read, head-at}
-use Rattle.cart.proofs.Accounts.{held-by}
-use Rattle.cart.proofs.Looks.{HeadMoved}
 
 module _ (h : Hand) (e : Entry) (es : List Entry) where
   from-t1 : t1AtTarget (h .dir) ≡ true → h .dir .t1 ≡ e ∷ es → demotion h ≡ withCounts (h .nS - 1) (h .nL) (demote T1 B1 e es h)
@@ -30,14 +28,13 @@ module _ {w w₁ : List ℕ} {nS nL moves : ℕ} (h : Hand) (holds : Holds h w n
   -- What the code answers, and the words then.
   pub demotes-t1 : headFlags (decode w .t1) ≡ 0 → max unit (getD w 2 0) ≤ unit * nT1 w → HeadMoved 0 2 0 w w₁
       → (getD w 8 0 ≡ demotion h .page) × (1 ≡ demotion h .list) × Holds (demotion h) w₁ (nS - 1) nL (moves + 1)
-  demotes-t1 clear at-target moved =
+  demotes-t1 clear test moved =
       let d = h .dir in
       let is = holds .words-are in
-      let r = read d is in
-      let a = head-at 0 d is (omega arith) (omega arith) in
-      let test = le-leb (max unit (d .p)) (unit * ∣ d .t1 ∣) (omega arith) in
-      let flags-0 : 0 ≡ flags (a .head) = sym clear ∙ ap (λ (d : Directory). headFlags (d .t1)) (held-by d is) ∙ ap headFlags (a .front) in
-      rw (from-t1 h (a .head) (a .rest) test (a .front)) (
+      let r = header d _ is in
+      let a = head-at 0 d is (omega arith) (omega arith) refl in
+      let flags-0 : 0 ≡ flags (a .head) = sym clear ∙ ap (λ (d : Directory). headFlags (d .t1)) (decoded d is) ∙ ap headFlags (a .front) in
+      rw (from-t1 h (a .head) (a .rest) (at-target d is test) (a .front)) (
         a .page-word,
         refl,
         record {
@@ -50,17 +47,16 @@ module _ {w w₁ : List ℕ} {nS nL moves : ℕ} (h : Hand) (holds : Holds h w n
 
   pub demotes-t2 : (at : ℕ) → at ≡ startOf 1 w → 1 ≤ nT2 w → unit * nT1 w < max unit (getD w 2 0) → HeadMoved 1 3 (getD w (at + 1) 0) w w₁
       → (getD w at 0 ≡ demotion h .page) × (2 ≡ demotion h .list) × Holds (demotion h) w₁ nS (nL - 1) (moves + 1)
-  demotes-t2 at start some under-target moved =
+  demotes-t2 at start some test moved =
       let d = h .dir in
       let is = holds .words-are in
-      let r = read d is in
-      let a = head-at 1 d is (omega arith) (omega arith) in
-      let test = lt-leb (max unit (d .p)) (unit * ∣ d .t1 ∣) (omega arith) in
-      rw (from-t2 h (a .head) (a .rest) test (a .front)) (
-        ap (λ (n : ℕ). getD w n 0) start ∙ a .page-word,
+      let r = header d _ is in
+      let a = head-at 1 d is (omega arith) (omega arith) start in
+      rw (from-t2 h (a .head) (a .rest) (under-target d is test) (a .front)) (
+        a .page-word,
         refl,
         record {
-          words-are = sym (moved d (a .head) (a .head) (a .rest) is (a .front) refl (ap (λ (n : ℕ). getD w (n + 1) 0) start ∙ a .flags-word));
+          words-are = sym (moved d (a .head) (a .head) (a .rest) is (a .front) refl (a .flags-word));
           short-is = holds .short-is;
           long-is = ap (λ (n : ℕ). n - 1) (holds .long-is);
           moves-is = ap (λ (n : ℕ). n + 1) (holds .moves-is);

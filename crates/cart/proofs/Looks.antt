@@ -8,15 +8,15 @@ use native.Mathlib.Omega.{arith}
 use lib.Dec.{leb}
 use Rattle.figures.specs.Choice.{∣_∣}
 use Rattle.figures.specs.Entry.{Entry, Filter, S, L, cleared, madeLong}
-use Rattle.figures.specs.Directory.{Directory, unit, Name, T1, T2, listOf, withList, toTail}
+use Rattle.figures.specs.Directory.{Directory, unit, Name, T1, T2, withList, toTail}
 use Rattle.figures.specs.Words.{flags, encode, decode}
 use Rattle.figures.specs.Hand.{Hand, Look, again, stop}
 use Rattle.figures.specs.Cart.{raise, lower, becomesLong, lookT1, lookT2, firstLook, secondLook}
 use Rattle.figures.proofs.Lists.{entryOf, length-tail}
-use Rattle.figures.proofs.Encoding.{one-to-one}
-use Rattle.entries.specs.Stretches.{nameOf}
+use Rattle.figures.proofs.Encoding.{decoded, one-to-one}
+use Rattle.entries.proofs.Heads.{HeadMoved}
 use Rattle.cart.specs.Passing.{headFlags, Passing, Holds, Turned, Looked}
-use Rattle.cart.proofs.Accounts.{Accounts, accounts, held-by, passing, t2-to-t1, t1-round, t1-to-t2, raise-keeps, lower-keeps}
+use Rattle.cart.proofs.Accounts.{Accounts, accounts, passing, t2-to-t1, t1-round, t1-to-t2, raise-keeps, lower-keeps}
 
 -- What the code's moves and changes of q make of the words w.
 
@@ -24,11 +24,6 @@ abbrev pub BorderMoved : List ℕ → List ℕ → Type 0
 BorderMoved w w₁ =
     (d : Directory) (e : Entry) (es : List Entry) → encode d ≡ w → d .t2 ≡ e ∷ es
     → w₁ ≡ encode (toTail T1 (cleared e) (withList T2 es d))
-
-abbrev pub HeadMoved : ℕ → ℕ → ℕ → List ℕ → List ℕ → Type 0
-HeadMoved i j f w w₁ =
-    (d : Directory) (e e′ : Entry) (es : List Entry) → encode d ≡ w → listOf (nameOf i) d ≡ e ∷ es → e′ .page ≡ e .page → f ≡ flags e′
-    → w₁ ≡ encode (toTail (nameOf j) e′ (withList (nameOf i) es d))
 
 abbrev pub Changed : (Directory → Directory) → List ℕ → List ℕ → Type 0
 Changed change w w₁ = (d : Directory) → encode d ≡ w → w₁ ≡ encode (change d)
@@ -164,7 +159,8 @@ module _ {w : List ℕ} {nS nL moves : ℕ} (p : Passing w nS nL moves) (f : ℕ
   pub first-looks : {w₁ : List ℕ} → f ≡ headFlags (decode w .t2) → f % 2 ≡ 1 → BorderMoved w w₁ → Moved firstLook (raise nS) w nS nL moves w₁
   first-looks same odd moved = by-head (first same) (omega arith) (λ x b k es h. at-t2 (decode w) x b k es h odd moved)
 
-  pub look-settles : {w₁ : List ℕ} → f ≡ headFlags (decode w .t1) → 1 ≤ f → ¬ (f % 2 ≡ 1) → HeadMoved 0 1 f w w₁ → Moved secondLook lower w nS nL moves w₁
+  pub look-settles : {w₁ : List ℕ} → f ≡ headFlags (decode w .t1) → 1 ≤ f → ¬ (f % 2 ≡ 1) → HeadMoved 0 1 f w w₁
+      → Moved secondLook lower w nS nL moves w₁
   look-settles same some even moved = by-head (second same) some (λ x b k es h. settles (decode w) x b k es h some even moved)
 
   pub look-goes-round : {w₁ : List ℕ} → f ≡ headFlags (decode w .t1) → f % 2 ≡ 1 → (f ≡ 1 → Tested false w) → HeadMoved 0 0 (f - 1) w w₁
@@ -196,7 +192,7 @@ stops-t1 (e ∷ es) h none = go (e .bit) (e .filter) none
 
 module _ {w : List ℕ} {nS nL moves : ℕ} (h : Hand) (holds : Holds h w nS nL moves) where
   pub first-stops : ¬ (headFlags (decode w .t2) % 2 ≡ 1) → firstLook h ≡ stop h
-  first-stops even = stops-t2 (h .dir .t2) h (rw (held-by (h .dir) (holds .words-are)) at even)
+  first-stops even = stops-t2 (h .dir .t2) h (rw (decoded (h .dir) (holds .words-are)) at even)
 
   pub second-stops : headFlags (decode w .t1) ≡ 0 → secondLook h ≡ stop h
-  second-stops none = stops-t1 (h .dir .t1) h (rw (held-by (h .dir) (holds .words-are)) at none)
+  second-stops none = stops-t1 (h .dir .t1) h (rw (decoded (h .dir) (holds .words-are)) at none)

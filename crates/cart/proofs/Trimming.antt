@@ -3,20 +3,20 @@
 use mathlib.Core.Path.{_≡_, refl, sym, ap, _∙_, subst⁻¹}
 use mathlib.Core.Bool.{Bool, true, false, _||_}
 use mathlib.Core.List.{List}
-use Prim.Native.Nat.{ℕ, _+_, _*_, _≤_, _<_}
+use Prim.Native.Nat.{ℕ, _+_, _≤_, _<_}
 use native.Mathlib.Omega.{arith}
 use lib.ListN.{getD}
 use lib.Dec.{eqb, ltb}
-use borrow.Author.Tests.{ltb-true, ltb-false, eqb-true, eqb-false, eq-eqb, ne-eqb, lt-ltb, le-ltb}
+use borrow.Author.Tests.{ltb-true, eqb-true, eqb-false, eq-eqb, ne-eqb, lt-ltb, le-ltb}
 use Rattle.figures.specs.Choice.{if_then_else_, ∣_∣}
 use Rattle.figures.specs.Entry.{Entry, dropHead}
 use Rattle.figures.specs.Directory.{Directory, B1, B2, listOf, withList, cached, remembered}
 use Rattle.figures.specs.Words.{encode, nB1, nB2}
 use Rattle.figures.specs.Cart.{trim}
 use Rattle.figures.proofs.Lists.{by-tests}
-use Rattle.figures.proofs.Facts.{Trimmed}
 use Rattle.figures.proofs.Cart.{cart-trims}
 use Rattle.entries.specs.Stretches.{nameOf}
+use Rattle.entries.proofs.Rooms.{Fits}
 use Rattle.cart.specs.Passing.{oldestList}
 
 -- By the tests of `oldestList`.
@@ -72,13 +72,9 @@ module _ (d : Directory) where
   trims-not not-full = ap (λ (b : Bool). if b then oldest else d) (ne-eqb (remembered d) (d .c + 1) not-full)
 
 -- After it there is room for one more entry.
-pub record Fits (d d′ : Directory) : Type 0 where
-  pub room : cached d′ + remembered d′ + 1 ≤ 2 * d .c
-  pub same-c : d′ .c ≡ d .c
-
 pub trim-fits : (d : Directory) → cached d + 1 ≡ d .c → remembered d ≤ d .c + 1 → Fits d (trim d)
 trim-fits d one-free history =
     let t = cart-trims d history in
     let n1 = ap (λ (l : List Entry). ∣ l ∣) (t .same-t1) in
     let n2 = ap (λ (l : List Entry). ∣ l ∣) (t .same-t2) in
-    record { room = omega (arith, t .history-fits); same-c = t .same-c }
+    record { one-fits = omega (arith, t .history-fits); same-c = t .same-c }

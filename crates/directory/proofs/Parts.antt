@@ -1,16 +1,17 @@
 -- Words that hold a directory, cut around any list of it: where the list stands, and how many entries it has.
 -- Assumes nothing.
-use mathlib.Core.Path.{_≡_, refl, sym, _∙_}
+use mathlib.Core.Path.{_≡_, sym, _∙_}
 use mathlib.Core.List.{List, [], _++_, append-assoc, append-nil}
-use Prim.Native.Nat.{ℕ, _+_, _*_}
+use Prim.Native.Nat.{ℕ, _+_, _*_, _≤_}
 use native.Mathlib.Omega.{arith}
-use lib.ListN.{length, length-append}
+use lib.ListN.{getD, length-append}
 use Rattle.figures.specs.Choice.{∣_∣}
 use Rattle.figures.specs.Entry.{Entry, short, long, total}
-use Rattle.figures.specs.Directory.{Directory, listed}
-use Rattle.figures.specs.Words.{words, decode, nT1, nT2, nB1, nB2}
+use Rattle.figures.specs.Directory.{Directory, listOf, listed}
+use Rattle.figures.specs.Words.{decode, nT1, nT2, nB1, nB2}
 use Rattle.figures.proofs.Lists.{short-and-long}
-use Rattle.entries.proofs.Laid.{Header, header}
+use Rattle.entries.specs.Stretches.{nameOf, startOf}
+use Rattle.entries.proofs.Laid.{Header, header, length-of-list}
 use Rattle.entries.proofs.Reading as Reading
 use Rattle.directory.specs.Orderly.{Held}
 
@@ -21,9 +22,8 @@ pub record Stands (w : List ℕ) (a n : ℕ) (l : List Entry) : Type 0 where
 
 -- So it is told what a search from word a′ on tells of any list of n′ entries that stands there.
 pub told : {w : List ℕ} {a n : ℕ} {l : List Entry} {Of : List Entry → Type 0} → Stands w a n l → (a′ n′ : ℕ)
-    → ((P R : List ℕ) (l : List Entry) → w ≡ P ++ (words l ++ R) → length P ≡ a′ → length l ≡ n′ → Of l) → a ≡ a′ → n ≡ n′ → Of l
-told {l = l} s a′ n′ tells at size =
-    tells (s .there .before) (s .there .after) l (s .there .parts) (s .there .starts ∙ at) (s .many ∙ size)
+    → Reading.Says Of w a′ n′ → a ≡ a′ → n ≡ n′ → Of l
+told s a′ n′ tells at size = Reading.told (s .there) tells at (s .many ∙ size)
 
 module _ {w : List ℕ} (h : Held w) where
   abbrev d : Directory
@@ -39,17 +39,17 @@ module _ {w : List ℕ} (h : Held w) where
   all-stand =
       stands [] (listed d) [] (sym (append-nil (listed d))) (omega arith) (simp length-append (omega (arith, lengths)))
 
+  list-stands : (i : ℕ) → i ≤ 3 → Stands w (startOf i w) (getD w (4 + i) 0) (listOf (nameOf i) d)
+  list-stands i known = record { there = Reading.list-held d w (h .is) i known; many = sym (length-of-list i d w (h .is) known) }
+
   pub t2-stands : Stands w (8 + 2 * nT1 w) (nT2 w) (d .t2)
-  t2-stands = stands (d .t1) (d .t2) (d .b1 ++ d .b2) refl (omega (arith, lengths)) (omega (arith, lengths))
+  t2-stands = list-stands 1 (omega arith)
 
   pub b1-stands : Stands w (8 + 2 * (nT1 w + nT2 w)) (nB1 w) (d .b1)
-  b1-stands =
-      stands (d .t1 ++ d .t2) (d .b1) (d .b2) (simp append-assoc) (simp length-append (omega (arith, lengths))) (omega (arith, lengths))
+  b1-stands = list-stands 2 (omega arith)
 
   pub b2-stands : Stands w (8 + 2 * (nT1 w + nT2 w + nB1 w)) (nB2 w) (d .b2)
-  b2-stands =
-      stands (d .t1 ++ (d .t2 ++ d .b1)) (d .b2) [] (simp (append-assoc, append-nil)) (simp length-append (omega (arith, lengths)))
-      (omega (arith, lengths))
+  b2-stands = list-stands 3 (omega arith)
 
   pub history-stands : Stands w (8 + 2 * (nT1 w + nT2 w)) (nB1 w + nB2 w) (d .b1 ++ d .b2)
   history-stands =

@@ -1,15 +1,15 @@
 -- One request of a sound directory in the words: what each way through `serve` comes to.
 -- Assumes nothing.
-use mathlib.Core.Path.{_≡_, refl, sym, ap, _∙_, subst, subst⁻¹}
+use mathlib.Core.Path.{_≡_, refl, sym, ap, _∙_, subst⁻¹}
 use mathlib.Core.Bool.{Bool, true, false, _||_}
-use mathlib.Core.List.{List, [], _∷_, _++_}
-use Prim.Native.Nat.{ℕ, _+_, _*_, _≤_, _<_}
+use mathlib.Core.List.{List, _++_}
+use Prim.Native.Nat.{ℕ, _+_, _≤_, _<_}
 use native.Mathlib.Omega.{arith}
-use lib.ListN.{length, getD, length-append}
+use lib.ListN.{getD, length-append}
 use lib.Dec.{eqb}
 use borrow.Author.Tests.{eqb-true, eq-eqb, ne-eqb}
 use Rattle.figures.specs.Choice.{if_then_else_, ∣_∣}
-use Rattle.figures.specs.Entry.{Entry, has}
+use Rattle.figures.specs.Entry.{has}
 use Rattle.figures.specs.Directory.{Directory, placeNew, cached}
 use Rattle.figures.specs.Words.{encode, decode, size, nT1, nT2}
 use Rattle.figures.specs.Sound.{sound, car, cart}
@@ -23,8 +23,9 @@ use Rattle.figures.proofs.Kept.{request-keeps}
 use Rattle.entries.specs.Answers.{Tells}
 use Rattle.entries.specs.Stretches.{Room, index}
 use Rattle.entries.proofs.Laid.{Header, header}
-use Rattle.entries.proofs.Reading.{cache-held}
-use Rattle.entries.proofs.Indexes.{index-has, index-lacks, roomy}
+use Rattle.entries.proofs.Reading.{told, cache-held}
+use Rattle.entries.proofs.Indexes.{index-has, index-lacks, has-append}
+use Rattle.entries.proofs.Rooms.{roomy}
 use Rattle.entries.proofs.Searching.{Found}
 use Rattle.directory.specs.Orderly.{Ready}
 
@@ -48,14 +49,6 @@ ready w is-sound =
 pub decoded-sound : (w : List ℕ) → sound w ≡ true → Sound (decode w)
 decoded-sound w is-sound = subst⁻¹ (λ (l : List ℕ). sound l ≡ true) (encode-decode w is-sound) is-sound
 
-has-append : (x : ℕ) (a b : List Entry) → has x (a ++ b) ≡ has x a || has x b
-has-append x [] b = refl
-has-append x (e ∷ a) b = go (eqb (e .page) x) (has-append x a b)
-  where
-    go : (t : Bool) → has x (a ++ b) ≡ has x a || has x b → (if t then true else has x (a ++ b)) ≡ (if t then true else has x a) || has x b
-    go true h = refl
-    go false h = h
-
 module _ {w : List ℕ} (r : Ready w) where
   abbrev d : Directory
   d = decode w
@@ -67,7 +60,7 @@ module _ {w : List ℕ} (r : Ready w) where
   held = header d w words-held
 
   pub room : Room w
-  room = subst Room words-held (roomy d (omega (arith, held, r)) (omega (arith, held, r)))
+  room = roomy d words-held (omega (arith, held, r)) (omega (arith, held, r))
 
   -- the policy that it names
   pub names-car : getD w 0 0 ≡ car → policyOf (d .policy) ≡ carPolicy
@@ -107,9 +100,7 @@ module _ {w : List ℕ} (r : Ready w) where
     -- the page's place in T1 and T2, as `find` gives it
     module _ (n k : ℕ) (found : Found w 8 n x k) (all : n ≡ nT1 w + nT2 w) where
       pub place : k ≡ index x (d .t1 ++ d .t2)
-      place =
-          let there = cache-held d w words-held in
-          found (there .before) (there .after) (d .t1 ++ d .t2) (there .parts) (there .starts) (length-append (d .t1) (d .t2) ∙ omega (arith, held))
+      place = told (cache-held d w words-held) found refl (length-append (d .t1) (d .t2) ∙ omega (arith, held))
 
       pub tells-hit : k < n → w′ ≡ encode (hit x d) → Tells (request x d) 0 0 0 0 w′ × Ready w′
       tells-hit inside are =

@@ -15,10 +15,12 @@ use Rattle.figures.specs.Request.{hit}
 use Rattle.figures.specs.Words.{flags, words, zeros, encode}
 use Rattle.figures.proofs.Lists.{HasHead, has-head, length-tail, length-marked, length-head-dropped, length-without}
 use Rattle.entries.specs.Stretches.{nameOf, startOf, index}
-use Rattle.entries.proofs.Laid.{heads, flags-cleared, flags-marked, length-listed, place, start-of-place, places-in-order, places-within, insert, length-insert}
-use Rattle.entries.proofs.Laid.{heads-with, list-with, size-with, length-in-heads, length-of-list, length-of-other, place-next, place-behind, place-before, listed-around, listed-tail}
+use Rattle.entries.proofs.Laid.{heads, flags-cleared, flags-marked, length-listed, insert, length-insert, listed-around, listed-tail}
+use Rattle.entries.proofs.Laid.{place, start-of-place, places-in-order, places-within, place-next, place-behind, place-before}
+use Rattle.entries.proofs.Laid.{heads-with, list-with, size-with, length-in-heads, length-of-list, length-of-other}
 use Rattle.entries.proofs.Indexes.{index-has, Around, around, mark-append}
-use Rattle.entries.proofs.Moving.{ToEnd, PutIn, TakenOut, moved-on, moved-back, added, dropped, flags-at, reflagged, no-length-set, one-length-set, two-lengths-set, Parts, parts}
+use Rattle.entries.proofs.Moving.{ToEnd, PutIn, TakenOut, moved-on, moved-back, added, dropped, flags-at, reflagged, Parts, parts}
+use Rattle.entries.proofs.Moving.{no-length-set, one-length-set, two-lengths-set}
 
 -- The head of list i, as e′, at the tail of list j.
 module _ (i j : ℕ) (d : Directory) (e e′ : Entry) (es : List Entry) (w L : List ℕ) (v : ℕ) (low : i ≤ 1) (order : i ≤ j) (high : j ≤ 3)
@@ -49,7 +51,8 @@ module _ (i j : ℕ) (d : Directory) (e e′ : Entry) (es : List Entry) (w L : L
   cut =
       let later = places-in-order (i + 1) (j + 1) d (omega arith) in
       let next = place-next i d (omega arith) in
-      parts (listed without-head) (place i d) (place (j + 1) without-head) (omega (arith, apart, length-list)) (omega (arith, apart, one-out, places-within (j + 1) d))
+      parts (listed without-head) (place i d) (place (j + 1) without-head) (omega (arith, apart, length-list))
+      (omega (arith, apart, one-out, places-within (j + 1) d))
 
   turned : L ≡ heads d ++ (words (listed with-tail) ++ zeros with-tail)
   turned =
@@ -105,7 +108,8 @@ module _ (t b k : ℕ) (d : Directory) (e′ : Entry) (w L : List ℕ) (x v : �
 
   halves : Parts (listed without-page) (place (t + 1) d) (place b d + k)
   halves = parts (listed without-page) (place (t + 1) d) (place b d + k) (omega (arith, places-in-order (t + 1) b d (omega arith)))
-      (omega (arith, ap (λ (l : List Entry). ∣ l ∣) from-history, length-insert (place b d + k) (history .it) (listed without-page), places-within (b + 1) d, place-next b d high, length-of-list b d w is high))
+      (let one = ap (λ (l : List Entry). ∣ l ∣) from-history ∙ length-insert (place b d + k) (history .it) (listed without-page) in
+      omega (arith, places-within (b + 1) d, place-next b d high, length-of-list b d w is high))
 
   brought : L ≡ heads d ++ (words (listed come-back) ++ zeros come-back)
   brought =
@@ -138,7 +142,8 @@ module _ (d : Directory) (x : ℕ) (w L : List ℕ) (is : encode d ≡ w) (room 
       let a : s ≡ 8 + 2 * ∣ d .t1 ∣ = omega (arith, start-of-place 1 d w is) in
       let b : z ≡ s + 2 * ∣ d .t2 ++ (d .b1 ++ d .b2) ∣ + 2 = simp length-append (omega (arith, start-of-place 4 d w is)) in
       let n : getD w 4 0 + 1 ≡ ∣ d .t1 ++ (e ∷ []) ∣ = omega (arith, length-of-list 0 d w is (omega arith), length-tail (d .t1) e) in
-      one-length-set d d′ L (added d d′ (d .t1) (d .t2 ++ (d .b1 ++ d .b2)) e w L s z is refl a b refl (simp append-assoc) (omega arith) does) 0 _ (omega arith) (rw n)
+      let rest = d .t2 ++ (d .b1 ++ d .b2) in
+      one-length-set d d′ L (added d d′ (d .t1) rest e w L s z is refl a b refl (simp append-assoc) (omega arith) does) 0 _ (omega arith) (rw n)
 
 -- List b without its head.
 module _ (b : ℕ) (d : Directory) (w L : List ℕ) (high : b ≤ 3) (is : encode d ≡ w) (some : 1 ≤ getD w (4 + b) 0)
@@ -161,12 +166,15 @@ module _ (b : ℕ) (d : Directory) (w L : List ℕ) (high : b ≤ 3) (is : encod
   pub head-dropped : set L (4 + b) (getD w (4 + b) 0 - 1) ≡ encode shorter
   head-dropped =
       let all = length-listed d in
-      let a : s ≡ 8 + 2 * ∣ take (place b d) (listed shorter) ∣ = omega (arith, start-of-place b d w is, length-take-le (place b d) (listed shorter) in-reach) in
+      let a : s ≡ 8 + 2 * ∣ take (place b d) (listed shorter) ∣ =
+      omega (arith, start-of-place b d w is, length-take-le (place b d) (listed shorter) in-reach) in
       let c : z ≡ s + 2 * ∣ drop (place b d) (listed shorter) ∣ + 2 =
       simp length-drop (omega (arith, start-of-place 4 d w is, start-of-place b d w is, one-dropped, in-reach)) in
-      let n : getD w (4 + b) 0 - 1 ≡ ∣ dropHead (listOf (nameOf b) d) ∣ = omega (arith, length-of-list b d w is high, length-head-dropped (listOf (nameOf b) d)) in
+      let n : getD w (4 + b) 0 - 1 ≡ ∣ dropHead (listOf (nameOf b) d) ∣ =
+      omega (arith, length-of-list b d w is high, length-head-dropped (listOf (nameOf b) d)) in
       let left : L ≡ heads d ++ (words (listed shorter) ++ zeros shorter) =
-      dropped d shorter (take (place b d) (listed shorter)) (drop (place b d) (listed shorter)) (oldest .head) w L s z is (size-with b _ d) a c with-oldest (sym (take-append-drop (place b d) (listed shorter))) (omega arith) does in
+      dropped d shorter (take (place b d) (listed shorter)) (drop (place b d) (listed shorter)) (oldest .head) w L s z is (size-with b _ d) a c
+      with-oldest (sym (take-append-drop (place b d) (listed shorter))) (omega arith) does in
       one-length-set d shorter L left b _ high (heads-with b _ d high ∙ rw n)
 
 -- The head of T2, its bit cleared, at the tail of T1.
@@ -184,7 +192,8 @@ module _ (d : Directory) (e : Entry) (es : List Entry) (w : List ℕ) (at : ℕ)
       let n : getD w 4 0 + 1 ≡ ∣ d .t1 ++ (cleared e ∷ []) ∣ = omega (arith, length-tail (d .t1) (cleared e)) in
       let m : getD w 5 0 - 1 ≡ ∣ es ∣ = omega (arith, ap (λ (l : List Entry). ∣ l ∣) front) in
       two-lengths-set d d′ _
-      (reflagged d d′ (d .t1) C e (cleared e) w at _ is it from (simp append-assoc) refl refl (flags-cleared e _ (flags-at d d′ (d .t1) C e (cleared e) w at 0 is it from)))
+      (reflagged d d′ (d .t1) C e (cleared e) w at _ is it from (simp append-assoc) refl refl
+      (flags-cleared e _ (flags-at d d′ (d .t1) C e (cleared e) w at 0 is it from)))
       0 1 _ _ (omega arith) (omega arith) (rw (n, m))
 
 -- Page x of T1 or T2 with its bit set.
@@ -214,8 +223,10 @@ module _ (d : Directory) (x : ℕ) where
     pub bit-set : set w (8 + 2 * k + 1) (getD w (8 + 2 * k + 1) 0 - getD w (8 + 2 * k + 1) 0 % 2 + 1) ≡ encode (hit x d)
     bit-set =
         let C = cache .behind ++ (d .b1 ++ d .b2) in
-        let from : listed d ≡ cache .ahead ++ (cache .it ∷ C) = sym (append-assoc (d .t1) (d .t2) (d .b1 ++ d .b2)) ∙ rw (cache .whole) (append-assoc (cache .ahead) (cache .it ∷ cache .behind) (d .b1 ++ d .b2)) in
-        let to : listed (hit x d) ≡ cache .ahead ++ (marked (cache .it) ∷ C) = hit-listed ∙ rw (cache .marks) (append-assoc (cache .ahead) (marked (cache .it) ∷ cache .behind) (d .b1 ++ d .b2)) in
+        let from : listed d ≡ cache .ahead ++ (cache .it ∷ C) =
+        sym (append-assoc (d .t1) (d .t2) (d .b1 ++ d .b2)) ∙ rw (cache .whole) (append-assoc (cache .ahead) (cache .it ∷ cache .behind) (d .b1 ++ d .b2)) in
+        let to : listed (hit x d) ≡ cache .ahead ++ (marked (cache .it) ∷ C) =
+        hit-listed ∙ rw (cache .marks) (append-assoc (cache .ahead) (marked (cache .it) ∷ cache .behind) (d .b1 ++ d .b2)) in
         let it : 8 + 2 * k + 1 ≡ 9 + 2 * ∣ cache .ahead ∣ = omega (arith, cache .length-ahead) in
         no-length-set d (hit x d) _
         (reflagged d (hit x d) (cache .ahead) C (cache .it) (marked (cache .it)) w (8 + 2 * k + 1) _ is it from to hit-size refl

@@ -1,25 +1,14 @@
 -- Where a page stands in a list: below its length just where the list has the page, and what stands before and after it.
 -- Assumes nothing.
-use mathlib.Core.Path.{_≡_, refl, ap, sym, subst}
-use mathlib.Core.Bool.{Bool, true, false, true≢false, false≢true}
+use mathlib.Core.Path.{_≡_, refl, ap}
+use mathlib.Core.Bool.{Bool, true, false, _||_, true≢false, false≢true}
 use mathlib.Core.List.{List, [], _∷_, _++_}
-use Prim.Native.Nat.{ℕ, suc, _+_, _*_, _≤_, _<_}
+use Prim.Native.Nat.{ℕ, suc, _≤_, _<_}
 use native.Mathlib.Omega.{arith}
 use lib.Dec.{eqb}
 use Rattle.figures.specs.Choice.{if_then_else_, ∣_∣}
 use Rattle.figures.specs.Entry.{Entry, marked, has, mark, without}
-use Rattle.figures.specs.Directory.{Directory, cached, remembered}
-use Rattle.figures.specs.Words.{encode}
-use Rattle.figures.proofs.Encoding.{words-fit}
-use Rattle.entries.specs.Stretches.{Room, index, startOf}
-
-pub index-at-most : (x : ℕ) (l : List Entry) → index x l ≤ ∣ l ∣
-index-at-most x [] = omega arith
-index-at-most x (e ∷ l) = go (eqb (e .page) x) (index-at-most x l)
-  where
-    go : (b : Bool) → index x l ≤ ∣ l ∣ → (if b then 0 else suc (index x l)) ≤ suc ∣ l ∣
-    go true h = omega arith
-    go false h = omega arith
+use Rattle.entries.specs.Stretches.{index}
 
 pub has-index : (x : ℕ) (l : List Entry) → has x l ≡ true → index x l < ∣ l ∣
 has-index x [] h = absurd (false≢true h)
@@ -81,6 +70,14 @@ around x (e ∷ l) h = go (eqb (e .page) x) refl h (around x l)
           marks = rw i (ap (λ (t : List Entry). e ∷ t) (r .marks));
         }
 
+pub has-append : (x : ℕ) (a b : List Entry) → has x (a ++ b) ≡ has x a || has x b
+has-append x [] b = refl
+has-append x (e ∷ a) b = go (eqb (e .page) x) (has-append x a b)
+  where
+    go : (t : Bool) → has x (a ++ b) ≡ has x a || has x b → (if t then true else has x (a ++ b)) ≡ (if t then true else has x a) || has x b
+    go true h = refl
+    go false h = h
+
 pub mark-append : (x : ℕ) (a b : List Entry) → mark x (a ++ b) ≡ (if has x a then mark x a ++ b else a ++ mark x b)
 mark-append x [] b = refl
 mark-append x (e ∷ a) b = go (eqb (e .page) x) (has x a) (mark-append x a b)
@@ -91,12 +88,3 @@ mark-append x (e ∷ a) b = go (eqb (e .page) x) (has x a) (mark-append x a b)
     go true z h = refl
     go false true h = ap (λ (t : List Entry). e ∷ t) h
     go false false h = ap (λ (t : List Entry). e ∷ t) h
-
--- The words of a directory whose lists fit have room for all that the leaves do.
-pub roomy : (d : Directory) → cached d + remembered d ≤ 2 * d .c → d .c ≤ 1024 → Room (encode d)
-roomy d j k = let n = words-fit d j in record { short = omega arith; held = omega arith }
-
-pub room-for-new : (d : Directory) (w : List ℕ) → w ≡ encode d → cached d + remembered d + 1 ≤ 2 * d .c → d .c ≤ 1024 → Room w × (startOf 4 w + 2 ≤ ∣ w ∣)
-room-for-new d w is fits small =
-    let n = words-fit d (omega arith) in
-    subst (λ (v : List ℕ). Room v × (startOf 4 v + 2 ≤ ∣ v ∣)) (sym is) (roomy d (omega arith) small, omega arith)

@@ -9,3 +9,6 @@ pub mod Reading
 pub mod Searching
 pub mod Counting
 pub mod Bounds
+pub mod Heads
+pub mod Rooms
+pub mod Placed

@@ -56,6 +56,14 @@ entry-at {w} {a} {l} h i fits =
     let there : Held w (a + 2 * i) (e ∷ drop (i + 1) l) = rw front at (held-from h i (omega arith)) in
     record { here = e; front = front; page-word = first-page there; flags-word = first-flags there }
 
+-- What a search of the n entries from word a on says of any list that stands there;
+abbrev pub Says : (List Entry → Type 0) → List ℕ → ℕ → ℕ → Type 0
+Says Of w a n = (P R : List ℕ) (l : List Entry) → w ≡ P ++ (words l ++ R) → length P ≡ a → length l ≡ n → Of l
+
+-- so of this one.
+pub told : {Of : List Entry → Type 0} {w : List ℕ} {a a′ n : ℕ} {l : List Entry} → Held w a l → Says Of w a′ n → a ≡ a′ → ∣ l ∣ ≡ n → Of l
+told {l = l} h says at many = says (h .before) (h .after) l (h .parts) (h .starts ∙ at) many
+
 -- The words of a directory hold any stretch of its listed entries,
 module _ (d : Directory) (w : List ℕ) (is : encode d ≡ w) where
   pub stretch-held : (A l B : List Entry) → listed d ≡ A ++ (l ++ B) → (a : ℕ) → 8 + 2 * ∣ A ∣ ≡ a → Held w a l

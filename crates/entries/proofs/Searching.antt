@@ -2,7 +2,7 @@
 -- Assumes nothing.
 use mathlib.Core.Path.{_≡_, sym, ap, _∙_}
 use mathlib.Core.Bool.{true, false}
-use mathlib.Core.List.{List, _++_}
+use mathlib.Core.List.{List}
 use Prim.Native.Nat.{ℕ, suc, _+_, _-_, _*_, _≤_, _<_}
 use native.Mathlib.Omega.{arith}
 use lib.ListN.{length, drop, getD, length-drop}
@@ -10,10 +10,10 @@ use borrow.Author.Tests.{eq-eqb, ne-eqb}
 use Rattle.figures.specs.Choice.{∣_∣}
 use Rattle.figures.specs.Entry.{Entry, has, differ}
 use Rattle.figures.specs.Directory.{Directory, listOf}
-use Rattle.figures.specs.Words.{words, encode}
+use Rattle.figures.specs.Words.{encode}
 use Rattle.entries.specs.Stretches.{nameOf, startOf, index}
 use Rattle.entries.proofs.Laid.{length-of-list}
-use Rattle.entries.proofs.Reading.{Held, held-from, EntryAt, entry-at, list-held}
+use Rattle.entries.proofs.Reading.{Held, held-from, EntryAt, entry-at, Says, told, list-held}
 use Rattle.entries.proofs.Indexes.{index-has, index-lacks}
 
 module _ {w : List ℕ} {a : ℕ} {l : List Entry} {i : ℕ} (s : EntryAt w a l i) (x : ℕ) where
@@ -25,7 +25,7 @@ module _ {w : List ℕ} {a : ℕ} {l : List Entry} {i : ℕ} (s : EntryAt w a l 
 
 -- Page x stands at k among the n entries from word a on, as `find` says.
 abbrev pub Found : List ℕ → ℕ → ℕ → ℕ → ℕ → Type 0
-Found w a n x k = (P R : List ℕ) (l : List Entry) → w ≡ P ++ (words l ++ R) → length P ≡ a → length l ≡ n → k ≡ index x l
+Found w a n x k = Says (λ l. k ≡ index x l) w a n
 
 -- the page of entry i, looked for among the later entries
 module _ {w : List ℕ} {a n i k : ℕ} {l : List Entry} (h : Held w a l) (many : length l ≡ n) (inside : i < n)
@@ -40,9 +40,7 @@ module _ {w : List ℕ} {a n i k : ℕ} {l : List Entry} (h : Held w a l) (many 
   length-later = simp length-drop (omega arith)
 
   place : k ≡ index (s .here .page) later
-  place =
-      let r = held-from h (i + 1) (omega arith) in
-      found (r .before) (r .after) later (r .parts) (omega arith) length-later ∙ ap (λ (x : ℕ). index x later) (s .page-word)
+  place = told (held-from h (i + 1) (omega arith)) found (omega arith) length-later ∙ ap (λ (x : ℕ). index x later) (s .page-word)
 
   pub differ-not : k < n - i - 1 → differ (drop i l) ≡ false
   differ-not is = rw (s .front, index-has (s .here .page) later (omega (arith, place, length-later)))
@@ -57,9 +55,7 @@ module _ (d : Directory) (w : List ℕ) (is : encode d ≡ w) (i : ℕ) (named :
   length-searched = sym (length-of-list i d w is named) ∙ sym size
 
   pub found-index : k ≡ index x (listOf (nameOf i) d)
-  found-index =
-      let there = list-held d w is i named in
-      found (there .before) (there .after) (listOf (nameOf i) d) (there .parts) (there .starts ∙ sym start) length-searched
+  found-index = told (list-held d w is i named) found (sym start) length-searched
 
   pub found-has : k < n → has x (listOf (nameOf i) d) ≡ true
   found-has h = index-has x (listOf (nameOf i) d) (omega (arith, found-index, length-searched))

@@ -1,8 +1,8 @@
 -- The lists that a stretch of words goes through while it is turned, and what the turned stretch is in its parts.
 -- Assumes nothing.
-use mathlib.Core.Path.{_≡_, refl, sym, ap, _∙_, subst}
+use mathlib.Core.Path.{_≡_, refl, sym, ap, _∙_}
 use mathlib.Core.List.{List, [], _∷_, _++_, append-assoc, append-nil}
-use Prim.Native.Nat.{ℕ, zero, suc, _+_, _-_, _≤_, _<_}
+use Prim.Native.Nat.{ℕ, suc, _+_, _-_, _<_}
 use native.Mathlib.Numerals.{add-one}
 use native.Mathlib.Omega.{arith}
 use lib.ListN.{length, take, drop, getD, set, length-append, length-drop}
@@ -16,12 +16,6 @@ moved l i = take i (drop 2 l) ++ drop i l
 pub moved-none : (l : List ℕ) → l ≡ moved l 0
 unfolding moved
 moved-none l = refl
-
-pub moved-length : (l : List ℕ) (i : ℕ) → i + 2 ≤ length l → length (moved l i) ≡ length l
-unfolding moved
-moved-length l i h =
-    let e = length-take-le i (drop 2 l) (simp length-drop (omega arith)) in
-    length-append (take i (drop 2 l)) (drop i l) ∙ omega (arith, e, length-drop i l)
 
 module _ (l : List ℕ) (i : ℕ) (h : i + 2 < length l) where
   front : length (take i (drop 2 l)) ≡ i
@@ -134,12 +128,14 @@ over-all Y l = ap (λ (r : List ℕ). take (length l) Y ++ r) (drop-length l) �
 
 -- a word put in at word a, and the last before word e out
 module _ (P M R : List ℕ) (h v a e : ℕ) (p : length P ≡ a) (q : a + length M + 1 ≡ e) where
-  pub pushed : (X L : List ℕ) → X ≡ P ++ (M ++ (h ∷ R)) → L ≡ take (length (midOf a (e - a) X)) (v ∷ midOf a (e - a) X) → putMid a (e - a) X L ≡ P ++ (v ∷ (M ++ R))
+  pub pushed : (X L : List ℕ) → X ≡ P ++ (M ++ (h ∷ R)) → L ≡ take (length (midOf a (e - a) X)) (v ∷ midOf a (e - a) X)
+      → putMid a (e - a) X L ≡ P ++ (v ∷ (M ++ R))
   pushed X L x l =
       let aft : drop a X ≡ M ++ (h ∷ R) = ap (λ (z : List ℕ). drop a z) x ∙ drop-at P (M ++ (h ∷ R)) a p in
       let n : length (M ++ (h ∷ [])) ≡ e - a = length-append M (h ∷ []) ∙ omega arith in
       let m : midOf a (e - a) X ≡ M ++ (h ∷ []) = ap (λ (z : List ℕ). take (e - a) z) (aft ∙ sym (append-snoc M h R)) ∙ take-at (M ++ (h ∷ [])) R (e - a) n in
       let s : postOf a (e - a) X ≡ R = ap (λ (z : List ℕ). drop (e - a) z) (aft ∙ sym (append-snoc M h R)) ∙ drop-at (M ++ (h ∷ [])) R (e - a) n in
-      let k : L ≡ v ∷ M = l ∙ ap (λ (z : List ℕ). take (length z) (v ∷ z)) m ∙ take-at (v ∷ M) (h ∷ []) (length (M ++ (h ∷ []))) (omega (arith, length-append M (h ∷ []))) in
+      let k : L ≡ v ∷ M =
+      l ∙ ap (λ (z : List ℕ). take (length z) (v ∷ z)) m ∙ take-at (v ∷ M) (h ∷ []) (length (M ++ (h ∷ []))) (omega (arith, length-append M (h ∷ []))) in
       let f : take a X ≡ P = ap (λ (z : List ℕ). take a z) x ∙ take-at P (M ++ (h ∷ R)) a p in
       rw (s, f, k)

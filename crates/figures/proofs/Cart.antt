@@ -17,7 +17,7 @@ use Rattle.figures.specs.Cart.{raise, becomesLong, cost, firstLook, seco
 use Rattle.figures.specs.Cart.{demoteT1, demoteT2, demotion, counted, evict, trim, placeB1, placeB2}
 use Rattle.figures.specs.Request.{hit}
 use Rattle.figures.specs.Demands.{Evicts, CartStops, CartTrimHasHead}
-use Rattle.figures.proofs.Lists.{by-test, by-tests, either, entryOf, atHead, head-of-tail}
+use Rattle.figures.proofs.Lists.{by-test, by-tests, either, entryOf, atHead, head-of-tail, short-or-long}
 use Rattle.figures.proofs.Lists.{total-tail, total-without, total-marked-same, total-head-dropped}
 use Rattle.figures.proofs.Repeats.{Leads, Ended, repeat-ends}
 use Rattle.figures.proofs.Facts.{Shared, CartFacts, Opened, Trimmed}
@@ -28,18 +28,14 @@ use Rattle.figures.proofs.Turns.{Evicted, evicted-t1, evicted-t2, trimm
 abbrev pub owing : Directory → ℕ
 owing d = total cost (d .t1) + 2 * total bits (d .t2)
 
-short-or-long : (e : Entry) → short e + long e ≡ 1
-short-or-long e = go (e .filter)
-  where
-    go : (f : Filter) → shortOf f + longOf f ≡ 1
-    go S = refl
-    go L = refl
+pub cost-at-most-two : (e : Entry) → cost e ≤ 2
+cost-at-most-two e = either (λ n. n ≤ 2) (e .bit) (omega arith) (omega (arith, short-or-long (e .filter)))
 
 cost-counts : (e : Entry) → bits e + long e ≤ cost e
 cost-counts e = go (e .bit)
   where
     go : (b : Bool) → (if b then 1 else 0) + long e ≤ (if b then 2 else long e)
-    go true = omega (arith, short-or-long e)
+    go true = omega (arith, short-or-long (e .filter))
     go false = omega arith
 
 -- Raise changes q alone, which fits then too.
@@ -109,7 +105,7 @@ module _ (d : Directory) where
       raise-leaves (λ d′. FirstLooked h (again (withDir d′ h′))) (h′ .nS) (h′ .dir) (passing .accounted .own .q-fits)
       (λ q fits. record {
         good = turn-keeps e f passing (λ count. omega (arith, total-tail count t1 (cleared e)))
-            (omega (arith, total-tail cost t1 (cleared e), short-or-long e));
+            (omega (arith, total-tail cost t1 (cleared e), short-or-long (e .filter)));
         less = omega arith;
       })
 
@@ -131,10 +127,10 @@ module _ (d : Directory) where
       record {
         good = record {
           passing = turn-keeps (entryOf x true f) f′ (settling .passing) (λ count. omega (arith, total-tail count es e))
-              (omega (arith, total-tail cost es e, short-or-long e));
+              (omega (arith, total-tail cost es e, short-or-long (e .filter)));
           t2-clear = settling .t2-clear;
         };
-        less = omega (arith, total-tail cost es e, short-or-long e);
+        less = omega (arith, total-tail cost es e, short-or-long (e .filter));
       }
 
   -- T1's head: with its bit clear it stays if it is S, and goes to T2's tail if it is L.
@@ -191,14 +187,14 @@ module _ (d : Directory) (shared : Shared d) (own : CartFacts d) (full : cached 
   from-t1 [] a settled some = absurd (omega arith)
   from-t1 (e ∷ es) a settled some = record {
     evicted = evicted-t1 shared e es a (settled .settling .passing .turned) (omega (arith, cost-counts e));
-    accounted = omega (arith, cost-counts e, short-or-long e, total-tail long (a .dir .b1) e);
+    accounted = omega (arith, cost-counts e, short-or-long (e .filter), total-tail long (a .dir .b1) e);
   }
 
   from-t2 : (l : List Entry) (a : Hand) → let h = holding T2 l a in Settled d h → 1 ≤ ∣ l ∣ → Outcome d (demoteT2 l h)
   from-t2 [] a settled some = absurd (omega arith)
   from-t2 (e ∷ es) a settled some = record {
     evicted = evicted-t2 shared e es a (settled .settling .passing .turned) (settled .settling .t2-clear);
-    accounted = omega (arith, short-or-long e, total-tail short (a .dir .b2) e);
+    accounted = omega (arith, short-or-long (e .filter), total-tail short (a .dir .b2) e);
   }
 
   demotes : (a : Hand) → Settled d a → Outcome d (demotion a)

@@ -111,8 +111,15 @@ pub decode-encode : (d : Directory) → decode (encode d) ≡ d
 unfolding decode
 decode-encode d = simp (mul-add, ← add-assoc, ← drop-drop, drop-words, entries-words)
 
+-- Words that a directory has are words of no other.
+pub decoded : (d : Directory) {w : List ℕ} → encode d ≡ w → decode w ≡ d
+decoded d is = ap decode (sym is) ∙ decode-encode d
+
+pub encoded : (d : Directory) {w : List ℕ} → encode d ≡ w → encode (decode w) ≡ w
+encoded d is = ap encode (decoded d is) ∙ is
+
 pub one-to-one : (d d′ : Directory) → encode d ≡ encode d′ → d ≡ d′
-one-to-one d d′ h = sym (decode-encode d) ∙ ap decode h ∙ decode-encode d′
+one-to-one d d′ h = sym (decoded d h) ∙ decode-encode d′
 
 pub words-fit : WordsFit
 words-fit d h = simp (length-append, length-words, length-replicate) (omega arith)

@@ -1,6 +1,6 @@
 -- What soundness says of a directory's value, in numbers that omega reads, and that the test says just that.
 -- Pages that differ are pages that count at most once.
-use mathlib.Core.Path.{_≡_}
+use mathlib.Core.Path.{_≡_, subst}
 use mathlib.Core.Bool.{true}
 use Prim.Native.Nat.{ℕ, _+_, _*_, _≤_, _<_}
 use native.Mathlib.Omega.{arith}
@@ -45,6 +45,10 @@ pub record Facts (d : Directory) : Type 0 where
   pub known : knownPolicy (d .policy) ≡ true
   pub shared : Shared d
   pub own : if eqb (d .policy) car then CarFacts d else CartFacts d
+
+-- Its own facts, by the policy that it names.
+pub own-by : {d : Directory} {policy : ℕ} → Facts d → d .policy ≡ policy → if eqb policy car then CarFacts d else CartFacts d
+own-by {d} f named = subst (λ (n : ℕ). if eqb n car then CarFacts d else CartFacts d) named (f .own)
 
 -- What the evict part does, whichever policy: one page less is cached, one more remembered, no page is lost or comes in.
 pub record Opened (d d′ : Directory) : Type 0 where

@@ -3,21 +3,19 @@
 use mathlib.Core.Path.{_≡_, refl, sym, ap, _∙_, subst}
 use mathlib.Core.Bool.{Bool, true, false, _||_}
 use mathlib.Core.List.{List, [], _∷_}
-use Prim.Native.Nat.{ℕ, _+_, _*_, _≤_, _<_}
+use Prim.Native.Nat.{ℕ, _+_, _≤_, _<_}
 use native.Mathlib.Omega.{arith}
 use lib.Dec.{eqb}
 use borrow.Author.Tests.{eqb-true, eqb-false, eq-eqb}
-use Rattle.figures.specs.Choice.{if_then_else_, ∣_∣}
+use Rattle.figures.specs.Choice.{if_then_else_}
 use Rattle.figures.specs.Entry.{has}
 use Rattle.figures.specs.Directory.{Directory, fresh, placeNew, cached, remembered, inCache}
 use Rattle.figures.specs.Hand.{Hand}
-use Rattle.figures.specs.Sound.{car, knownPolicy, knownSize}
-use Rattle.figures.specs.Car as Car
-use Rattle.figures.specs.Cart as Cart
-use Rattle.figures.specs.Request.{Policy, carPolicy, cartPolicy, policyOf, Served, hit, missed, serve, request}
-use Rattle.figures.specs.Demands.{Sound, Kept, RequestKeeps, FreshIsSound}
-use Rattle.figures.proofs.Lists.{is, has-counts, is-itself}
-use Rattle.figures.proofs.Facts.{CarFacts, CartFacts, Shared, Facts, Opened, Trimmed}
+use Rattle.figures.specs.Sound.{car, knownPolicy}
+use Rattle.figures.specs.Request.{Policy, carPolicy, cartPolicy, policyOf, hit, missed, serve, request}
+use Rattle.figures.specs.Demands.{Sound, RequestKeeps, FreshIsSound}
+use Rattle.figures.proofs.Lists.{is}
+use Rattle.figures.proofs.Facts.{CarFacts, CartFacts, Shared, Opened, Trimmed}
 use Rattle.figures.proofs.Encoding.{reads}
 use Rattle.figures.proofs.Soundness.{facts, facts-sound}
 use Rattle.figures.proofs.Requests.{serve-by-cases, missed-by-cases, after}

@@ -9,7 +9,7 @@ use lib.ListN.{length-append}
 use lib.Dec.{eqb}
 use borrow.Author.Tests.{eq-eqb}
 use Rattle.figures.specs.Choice.{if_then_else_, ∣_∣}
-use Rattle.figures.specs.Entry.{Entry, Filter, marked, total, has, mark, without, dropHead, S, L, shortOf, longOf, short, long}
+use Rattle.figures.specs.Entry.{Entry, Filter, S, L, marked, bits, shortOf, longOf, short, long, total, has, mark, without, dropHead}
 
 -- What each outcome of a test gives holds of the choice by it; of a choice by two tests, likewise.
 pub by-test : {A : Type 0} (P : A → Type 0) (b : Bool) {x y : A} → (b ≡ true → P x) → (b ≡ false → P y) → P (if b then x else y)
@@ -171,8 +171,11 @@ module _ (x : ℕ) where
       go true s h i = omega arith
       go false s h i = let j = i h in let k : is x e ≡ 0 = ap (λ (b : Bool). if b then 1 else 0) s in omega arith
 
--- Each entry is S or L.
-short-or-long : (f : Filter) → shortOf f + longOf f ≡ 1
+-- A bit counts for one at most, and each entry is S or L.
+pub bits-at-most-one : (e : Entry) → bits e ≤ 1
+bits-at-most-one e = either (λ n. n ≤ 1) (e .bit) (omega arith) (omega arith)
+
+pub short-or-long : (f : Filter) → shortOf f + longOf f ≡ 1
 short-or-long S = refl
 short-or-long L = refl
 

@@ -1,32 +1,32 @@
 -- Hand moves: no request needs more than c + 1 under CAR and 2c + 1 under CART, and over a run one, respectively two, a
 -- request are enough: what a directory owes falls with every move and rises by little with a request.
 use mathlib.Core.Path.{_≡_, refl, sym, ap, ap₂, subst}
-use mathlib.Core.Bool.{Bool, true, false, _||_}
+use mathlib.Core.Bool.{Bool, true, _||_}
 use mathlib.Core.List.{List, [], _∷_, _++_}
-use Prim.Native.Nat.{ℕ, suc, _+_, _*_, _≤_, _<_}
+use Prim.Native.Nat.{ℕ, _+_, _*_, _≤_}
 use native.Mathlib.Omega.{arith}
 use lib.Dec.{eqb, ltb}
 use borrow.Author.Tests.{eqb-true}
 use Rattle.figures.specs.Choice.{if_then_else_, ∣_∣}
-use Rattle.figures.specs.Entry.{Entry, Filter, S, L, newShort, newLong, bits, longOf, total, dropHead}
+use Rattle.figures.specs.Entry.{newShort, newLong, bits, total}
 use Rattle.figures.specs.Directory.{Directory, fresh, placeNew, cached, remembered, inCache}
 use Rattle.figures.specs.Hand.{Hand}
 use Rattle.figures.specs.Sound.{car, cart, knownPolicy}
 use Rattle.figures.specs.Car as Car
 use Rattle.figures.specs.Cart as Cart
-use Rattle.figures.specs.Request.{Policy, carPolicy, cartPolicy, policyOf, Served, hit, missed, serve, request}
-use Rattle.figures.specs.Run.{Tally, zeroTally, noted, run, runFrom}
-use Rattle.figures.specs.Demands.{Sound, StillRequests, CarMovesAreBitsCleared, mostMoves, RequestMovesAtMost}
+use Rattle.figures.specs.Request.{Policy, carPolicy, cartPolicy, policyOf, Served, hit, serve, request}
+use Rattle.figures.specs.Run.{Tally, zeroTally, noted, runFrom}
+use Rattle.figures.specs.Demands.{Sound, StillRequests, CarMovesAreBitsCleared, RequestMovesAtMost}
 use Rattle.figures.specs.Demands.{movesEach, owed, RunMovesAtMost, lastMoves, CarRequestAtMost, CartRequestAtMost, CarRunAtMost, CartRunAtMost}
-use Rattle.figures.proofs.Lists.{either, total-tail, total-at-most, total-marked-at-most}
-use Rattle.figures.proofs.Facts.{Shared, CarFacts, CartFacts, Facts}
+use Rattle.figures.proofs.Lists.{either, total-tail, total-at-most, total-marked-at-most, bits-at-most-one}
+use Rattle.figures.proofs.Facts.{Shared, CarFacts, CartFacts, Facts, own-by}
 use Rattle.figures.proofs.Encoding.{reads}
-use Rattle.figures.proofs.Soundness.{facts}
+use Rattle.figures.proofs.Soundness.{facts, by-policy}
 use Rattle.figures.proofs.Requests.{serve-by-cases, missed-by-cases, missed-moves, after, run-after}
 use Rattle.figures.proofs.Placing.{hit-either, raised}
 use Rattle.figures.proofs.Kept.{request-keeps, fresh-is-sound, run-keeps, run-same-policy, run-same-size}
 use Rattle.figures.proofs.Car.{car-evicts, car-moves}
-use Rattle.figures.proofs.Cart.{owing, cart-moves}
+use Rattle.figures.proofs.Cart.{owing, cost-at-most-two, cart-moves}
 
 pub still-requests : StillRequests
 still-requests x d =
@@ -44,32 +44,17 @@ moves-by π x d P none evicting =
     (λ not-found full. subst P (sym (missed-moves π x (π .evict d))) (evicting (eqb-true (cached d) (d .c) full)))
 
 -- What set bits and L pages can owe at most.
-bits-at-most-one : (e : Entry) → bits e ≤ 1
-bits-at-most-one e = either (λ n. n ≤ 1) (e .bit) (omega arith) (omega arith)
-
-cost-at-most-two : (e : Entry) → Cart.cost e ≤ 2
-cost-at-most-two e = either (λ n. n ≤ 2) (e .bit) (omega arith) (filters (e .filter))
-  where
-    filters : (f : Filter) → longOf f ≤ 2
-    filters S = omega arith
-    filters L = omega arith
-
 module _ (d : Directory) (shared : Shared d) (full : cached d ≡ d .c) where
   car-at-most : CarFacts d → Car.evict d .moves ≤ d .c + 1
   car-at-most own =
-      omega (arith, car-moves d shared own full, car-evicts d shared own full .bits-accounted, total-at-most bits 1 bits-at-most-one (d .t1), total-at-most bits 1 bits-at-most-one (d .t2))
+      let most = total-at-most bits 1 bits-at-most-one in
+      omega (arith, car-moves d shared own full, car-evicts d shared own full .bits-accounted, most (d .t1), most (d .t2))
 
   cart-at-most : CartFacts d → Cart.evict d .moves ≤ 2 * d .c + 1
   cart-at-most own =
-      omega (arith, cart-moves d shared own full, total-at-most Cart.cost 2 cost-at-most-two (d .t1), total-at-most bits 1 bits-at-most-one (d .t2))
-
--- The policy that a sound directory names.
-by-policy : (P : Bool → Type 0) (d : Directory) → Sound d → (Shared d → CarFacts d → P true) → (Shared d → CartFacts d → P false) → P (eqb (d .policy) car)
-by-policy P d s of-car of-cart = go (eqb (d .policy) car) (facts d s .own)
-  where
-    go : (b : Bool) → if b then CarFacts d else CartFacts d → P b
-    go true own = of-car (facts d s .shared) own
-    go false own = of-cart (facts d s .shared) own
+      let most-t1 = total-at-most Cart.cost 2 cost-at-most-two (d .t1) in
+      let most-t2 = total-at-most bits 1 bits-at-most-one (d .t2) in
+      omega (arith, cart-moves d shared own full)
 
 pub request-moves-at-most : RequestMovesAtMost
 request-moves-at-most x d s =
@@ -91,7 +76,7 @@ car-moves-are-bits-cleared x d s is-car =
     f = facts d s
 
     own : CarFacts d
-    own = subst (λ (n : ℕ). if eqb n car then CarFacts d else CartFacts d) is-car (f .own)
+    own = own-by f is-car
 
     Cleared : Served → Type 0
     Cleared s = 2 ≤ s .kind → s .moves ≡ s .cleared + 1

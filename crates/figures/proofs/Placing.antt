@@ -1,6 +1,6 @@
 -- Soundness of what a request leaves, as far as both policies share it: a hit, a new page, a page that comes back.
 -- Each outcome is judged by what it adds to the cache and takes from the histories.
-use mathlib.Core.Path.{_≡_, refl, sym, ap, _∙_}
+use mathlib.Core.Path.{_≡_, refl, ap}
 use mathlib.Core.Bool.{Bool, true, false, _||_, true≢false}
 use mathlib.Core.List.{List, [], _∷_, _++_}
 use Prim.Native.Nat.{ℕ, _+_, _-_, _*_, _≤_, _<_, min}

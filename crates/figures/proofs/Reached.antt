@@ -5,8 +5,7 @@ use mathlib.Core.Bool.{Bool, true, false, _||_}
 use mathlib.Core.List.{List, [], _∷_, _++_, append-assoc, append-nil}
 use Prim.Native.Nat.{ℕ, zero, suc, _+_, _-_, _*_, _≤_, _<_, max}
 use native.Mathlib.Omega.{arith}
-use lib.Dec.{leb, eqb, leb·zero}
-use borrow.Author.Tests.{eq-eqb, ne-eqb, le-leb, lt-leb}
+use borrow.Author.Tests.{eq-eqb, ne-eqb, le-leb}
 use Rattle.figures.specs.Choice.{if_then_else_, ∣_∣}
 use Rattle.figures.specs.Entry.{Entry, newShort, newLong, marked, bits, short, long, total, has, mark}
 use Rattle.figures.specs.Directory.{Directory, unit, T1, T2, B1, B2, fresh, withLists, withQ, placeNew}
@@ -14,7 +13,7 @@ use Rattle.figures.specs.Hand.{Hand, onward, repeat}
 use Rattle.figures.specs.Sound.{car, cart}
 use Rattle.figures.specs.Car as Car
 use Rattle.figures.specs.Cart as Cart
-use Rattle.figures.specs.Request.{Policy, policyOf, Served, request, serve, missed}
+use Rattle.figures.specs.Request.{policyOf, Served, request}
 use Rattle.figures.specs.Run.{run}
 use Rattle.figures.specs.Demands.{pagesFrom, allTwice, CarReached, CartReached}
 use Rattle.figures.proofs.Requests.{serve-hit, serve-room, serve-full, missed-moves, after, run-after, after-append}
@@ -50,8 +49,10 @@ module _ (f : ℕ → Entry) where
     marks-made : (n x : ℕ) (r : List Entry) → mark (x + n) (made f x n ++ r) ≡ made f x n ++ mark (x + n) r
     marks-made zero x r = refl
     marks-made (suc n) x r =
-        ap (λ (b : Bool). if b then marked (f x) ∷ (made f (suc x) n ++ r) else f x ∷ mark (x + suc n) (made f (suc x) n ++ r)) (ne-eqb (f x .page) (x + suc n) (λ e. omega (arith, named x)))
-        ∙ ap (λ (l : List Entry). f x ∷ l) (ap (λ (y : ℕ). mark y (made f (suc x) n ++ r)) (omega arith) ∙ marks-made n (suc x) r ∙ ap (λ (y : ℕ). made f (suc x) n ++ mark y r) (omega arith))
+        ap (λ (b : Bool). if b then marked (f x) ∷ (made f (suc x) n ++ r) else f x ∷ mark (x + suc n) (made f (suc x) n ++ r))
+        (ne-eqb (f x .page) (x + suc n) (λ e. omega (arith, named x)))
+        ∙ ap (λ (l : List Entry). f x ∷ l)
+        (ap (λ (y : ℕ). mark y (made f (suc x) n ++ r)) (omega arith) ∙ marks-made n (suc x) r ∙ ap (λ (y : ℕ). made f (suc x) n ++ mark y r) (omega arith))
 
 -- While T1 alone holds pages: a new page comes to its tail, and a page of it is marked.
 module _ (policy c : ℕ) where
@@ -89,7 +90,8 @@ module _ (policy c : ℕ) where
       let found : has x (made lit 1 k ++ (newShort x ∷ r)) ≡ true =
       counts-has x (made lit 1 k ++ (newShort x ∷ r)) (omega (arith, total-append (is x) (made lit 1 k) (newShort x ∷ r), is-itself x (newShort x) refl)) in
       let passed : mark x (made lit 1 k ++ (newShort x ∷ r)) ≡ made lit 1 k ++ mark x (newShort x ∷ r) =
-      subst (λ (y : ℕ). mark y (made lit 1 k ++ (newShort x ∷ r)) ≡ made lit 1 k ++ mark y (newShort x ∷ r)) (sym e) (marks-made lit (λ y. refl) k 1 (newShort x ∷ r)) in
+      subst (λ (y : ℕ). mark y (made lit 1 k ++ (newShort x ∷ r)) ≡ made lit 1 k ++ mark y (newShort x ∷ r)) (sym e)
+      (marks-made lit (λ y. refl) k 1 (newShort x ∷ r)) in
       let here : mark x (newShort x ∷ r) ≡ lit x ∷ r = ap (λ (b : Bool). if b then lit x ∷ r else newShort x ∷ mark x r) (eq-eqb x x refl) in
       let marked-one : mark x (made lit 1 k ++ (newShort x ∷ r)) ≡ made lit 1 (suc k) ++ r =
       passed ∙ ap (λ (l : List Entry). made lit 1 k ++ l) here ∙ ap (λ (y : ℕ). made lit 1 k ++ (lit y ∷ r)) e ∙ made-tail lit k 1 r in

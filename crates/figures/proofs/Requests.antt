@@ -3,10 +3,10 @@
 use mathlib.Core.Path.{_≡_, refl, sym, ap, _∙_, subst}
 use mathlib.Core.Bool.{Bool, true, false, _||_}
 use mathlib.Core.List.{List, [], _∷_, _++_}
-use Prim.Native.Nat.{ℕ, _+_}
+use Prim.Native.Nat.{ℕ}
 use lib.Dec.{eqb}
 use Rattle.figures.specs.Choice.{if_then_else_}
-use Rattle.figures.specs.Entry.{Entry, has}
+use Rattle.figures.specs.Entry.{has}
 use Rattle.figures.specs.Directory.{Directory, cached}
 use Rattle.figures.specs.Hand.{Hand}
 use Rattle.figures.specs.Request.{Policy, Served, still, evicted, hit, missed, serve, request}

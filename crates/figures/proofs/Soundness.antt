@@ -13,10 +13,10 @@ use Rattle.figures.specs.Choice.{if_then_else_}
 use Rattle.figures.specs.Entry.{Entry, Filter, S, L, longOf, total, differ}
 use Rattle.figures.specs.Directory.{Directory, cached, remembered, listed, inCache}
 use Rattle.figures.specs.Words.{flags, words, used, unused, encode, decode}
-use Rattle.figures.specs.Sound.{allAtMost, flagWords, carSound, cartSound, sound}
+use Rattle.figures.specs.Sound.{allAtMost, flagWords, car, carSound, cartSound, sound}
 use Rattle.figures.specs.Demands.{Sound}
 use Rattle.figures.proofs.Lists.{is, is-itself, total-append, lacks-counts, counts-lacks}
-use Rattle.figures.proofs.Facts.{inHistory, CarFacts, CartFacts, Facts}
+use Rattle.figures.proofs.Facts.{inHistory, Shared, CarFacts, CartFacts, Facts}
 use Rattle.figures.proofs.Encoding.{reads, decode-encode, encode-decode, words-fit, used-words, unused-words}
 
 -- Pages that differ are pages that count at most once.
@@ -87,6 +87,15 @@ module _ (d : Directory) where
       let flags-3 = flags-small in
       let unused-0 = unused-small in
       simp (says, own-iff) search
+
+-- The policy that a sound directory names.
+pub by-policy : (P : Bool → Type 0) (d : Directory) → Sound d
+    → (Shared d → CarFacts d → P true) → (Shared d → CartFacts d → P false) → P (eqb (d .policy) car)
+by-policy P d s of-car of-cart = go (eqb (d .policy) car) (facts d s .own)
+  where
+    go : (b : Bool) → if b then CarFacts d else CartFacts d → P b
+    go true own = of-car (facts d s .shared) own
+    go false own = of-cart (facts d s .shared) own
 
 pub facts-of-words : (w : List ℕ) → sound w ≡ true → Facts (decode w)
 facts-of-words w h = facts (decode w) (rw (encode-decode w h) h)

@@ -1,8 +1,7 @@
 -- The evict part of the policy that a sound, full directory names: it stops by itself and evicts one page.
 -- CAR's and CART's own laws are in Car and Cart; here they are put together.
-use mathlib.Core.Path.{_≡_, refl, sym, ap, _∙_, subst}
+use mathlib.Core.Path.{_≡_}
 use mathlib.Core.Bool.{Bool, true, false}
-use Prim.Native.Nat.{ℕ}
 use lib.Dec.{eqb}
 use Rattle.figures.specs.Choice.{if_then_else_}
 use Rattle.figures.specs.Directory.{Directory, cached}
@@ -10,10 +9,10 @@ use Rattle.figures.specs.Sound.{car}
 use Rattle.figures.specs.Car as Car
 use Rattle.figures.specs.Cart as Cart
 use Rattle.figures.specs.Request.{carPolicy, cartPolicy}
-use Rattle.figures.specs.Demands.{Sound, WhenFull, CarStops, CartStops, PublishedStopComesFirst, Evicts, EvictsOne, CountsKept}
+use Rattle.figures.specs.Demands.{WhenFull, CarStops, CartStops, PublishedStopComesFirst, Evicts, EvictsOne, CountsKept}
 use Rattle.figures.specs.Demands.{CarTrimHasHead, CartTrimHasHead, TrimHasHead}
-use Rattle.figures.proofs.Facts.{Shared, CarFacts, CartFacts}
-use Rattle.figures.proofs.Soundness.{facts}
+use Rattle.figures.proofs.Facts.{Shared, CarFacts, CartFacts, own-by}
+use Rattle.figures.proofs.Soundness.{facts, by-policy}
 use Rattle.figures.proofs.Car.{car-stops, car-evicts, car-trim-has-head}
 use Rattle.figures.proofs.Cart.{cart-stops, cart-evicts, cart-counts, cart-trim-has-head}
 
@@ -22,11 +21,8 @@ when-full : (P : Bool → Directory → Type 0)
     → ((d : Directory) → Shared d → CarFacts d → cached d ≡ d .c → P true d)
     → ((d : Directory) → Shared d → CartFacts d → cached d ≡ d .c → P false d)
     → WhenFull (λ d. P (eqb (d .policy) car) d)
-when-full P of-car of-cart d s full = go (eqb (d .policy) car) (facts d s .own)
-  where
-    go : (b : Bool) → if b then CarFacts d else CartFacts d → P b d
-    go true own = of-car d (facts d s .shared) own full
-    go false own = of-cart d (facts d s .shared) own full
+when-full P of-car of-cart d s full =
+    by-policy (λ b. P b d) d s (λ shared own. of-car d shared own full) (λ shared own. of-cart d shared own full)
 
 pub published-stop-comes-first : PublishedStopComesFirst
 published-stop-comes-first = when-full (λ b d. if b then CarStops d else CartStops d) car-stops cart-stops
@@ -40,6 +36,4 @@ trim-has-head =
     car-trim-has-head (λ d shared own full. cart-trim-has-head (Cart.evict d .dir))
 
 pub counts-kept : CountsKept
-counts-kept d s full is-cart =
-    let own = subst (λ (n : ℕ). if eqb n car then CarFacts d else CartFacts d) is-cart (facts d s .own) in
-    cart-counts d (facts d s .shared) own full
+counts-kept d s full is-cart = cart-counts d (facts d s .shared) (own-by (facts d s) is-cart) full

@@ -123,7 +123,8 @@ module _ (t : ℕ) where
   look-choose-requires c κs =
       let o = c .before .before .before .before .before .before .before .before in
       let s = o .before .before .before in
-      let x = again-asks (s .pre .1 .1 .0) (s .pre .1 .1 .1) (o .start-of .ensures) (c .before .before .before .before .before .if1 .taken) (c .before .before .before .move-head .ensures) in
+      let m = c .before .before .before in
+      let x = again-asks (s .pre .1 .1 .0) (s .pre .1 .1 .1) (o .start-of .ensures) (m .before .before .if1 .taken) (m .move-head .ensures) in
       (omega (arith, s .pre .0, x .fewer-bits), (x .room, x .turns-on))
 
   look-add-move-head : look-lts.Need-add-move-head (look-calls t) (look-at t) look.Post
@@ -158,7 +159,9 @@ module _ (t : ℕ) where
   look-returns c h is count =
       let o = c .before .before .before .before .before .before .before .before .before .before .before in
       let s = o .before .before .before in
-      again-ends (s .pre .1 .1 .0) (s .pre .1 .1 .1) (o .start-of .ensures) (c .before .before .before .before .before .before .before .before .if1 .taken) (c .before .before .before .before .before .before .move-head .ensures) h is count (c .before .before .choose .ensures)
+      let m = c .before .before .before .before .before .before in
+      again-ends (s .pre .1 .1 .0) (s .pre .1 .1 .1) (o .start-of .ensures) (m .before .before .if1 .taken) (m .move-head .ensures) h is count
+      (c .before .before .choose .ensures)
 
   look-same-length-2 : look-lts.Need-same-length-2 (look-calls t) (look-at t) look.Post
   look-same-length-2 c = search needs
@@ -167,7 +170,8 @@ module _ (t : ℕ) where
   look-returns-2 c h is count =
       let o = c .before .before .before .before .before .before .before in
       let s = o .before .before .before in
-      stop-ends (s .pre .1 .1 .0) (s .pre .1 .1 .1) (o .start-of .ensures) (c .before .before .before .before .if1 .left) (c .before .before .move-head2 .ensures) h is count
+      let m = c .before .before in
+      stop-ends (s .pre .1 .1 .0) (s .pre .1 .1 .1) (o .start-of .ensures) (m .before .before .if1 .left) (m .move-head2 .ensures) h is count
 
 pub +choose+look-spec : {M : Type 1} → statement M
 +choose+look-spec =

@@ -1,4 +1,4 @@
--- The test is the definition's. T1's head is S, since its flags are 0, and T2's is L; T2 has one where T1 is under target, since the cache is full.
+-- The test is the definition's. T1's head is S, since its flags are 0, and T2's is L; T2 has one if T1 is under target: the cache is full.
 use borrow.Author.Needs.{needs}
 use native.Mathlib.Omega.{arith}
 use Rattle.cart.proofs.Accounts.{short-counted, long-counted}
@@ -28,7 +28,9 @@ move-head-requires : tie.Need-move-head-requires
 move-head-requires c κs = search needs
 
 sub-t20 : tie.Need-sub-t20
-sub-t20 c = short-counted (c .before .before .before .before .before .before .before .before .before .before .before .before .before .before .pre .1 .0) (omega arith) (omega arith)
+sub-t20 c =
+    let s = c .before .before .before .before .before .before .before .before .before .before .before .before .before .before in
+    short-counted (s .pre .1 .0) (omega arith) (omega arith)
 
 start-of-requires : tie.Need-start-of-requires
 start-of-requires c κs = search needs
@@ -52,13 +54,17 @@ move-head-requires-2 : tie.Need-move-head-requires-2
 move-head-requires-2 c κs = search needs
 
 sub-t29 : tie.Need-sub-t29
-sub-t29 c = long-counted (c .before .before .before .before .before .before .before .before .before .before .before .before .before .before .before .before .before .pre .1 .0) (omega arith)
+sub-t29 c =
+    let t = c .before .before .before .before .before .before .before in
+    long-counted (t .before .before .before .before .before .before .before .before .before .before .pre .1 .0) (omega arith)
 
 same-length : tie.Need-same-length
 same-length c = search needs
 
 returns : tie.Need-returns
-returns c h holds = demotes-t1 h holds (c .before .before .before .before .before .before .before .before .before .before .before .before .before .before .pre .1 .1) (omega arith) (c .before .before .before .move-head .ensures)
+returns c h holds =
+    let s = c .before .before .before .before .before .before .before .before .before .before .before .before .before .before in
+    demotes-t1 h holds (s .pre .1 .1) (omega arith) (c .before .before .before .move-head .ensures)
 
 same-length-2 : tie.Need-same-length-2
 same-length-2 c = search needs

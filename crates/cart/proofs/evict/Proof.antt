@@ -7,7 +7,7 @@ use Rattle.figures.specs.Words.{nT1, nT2}
 use Rattle.figures.specs.Cart.{evict}
 use Rattle.cart.specs.Passing.{Passing}
 use Rattle.cart.proofs.Accounts.{passing-room}
-use Rattle.cart.proofs.Evicting.{full-room, begins-passing, passes-end}
+use Rattle.cart.proofs.Evicting.{held, begins-passing, passes-end}
 use Rattle.cart.proofs.evict.Statement.{statement}
 use Rattle.cart.proofs.evict.Tie as tie
 
@@ -15,22 +15,23 @@ use Rattle.cart.proofs.evict.Tie as tie
 starts : (c : tie.After-count) → let w = c .before .before .before .before .before .before .args .dir .now in
     Passing w (nT1 w + nT2 w - c .count .result) (c .count .result) 0
 starts c =
-    begins-passing (c .before .before .before .before .before .before .pre) (c .count .result) (λ P R l parts first many. c .count .ensures .1 P R l parts first (many ∙ sym (c .before .wide .ensures)))
+    begins-passing (c .before .before .before .before .before .before .pre) (c .count .result)
+    (λ P R l parts first many. c .count .ensures .1 P R l parts first (many ∙ sym (c .before .wide .ensures)))
 
 slice-read-n : tie.Need-slice-read-n
-slice-read-n c = omega (arith, full-room (c .before .before .pre))
+slice-read-n c = omega (arith, held (c .before .before .pre) .room)
 
 slice-read-n-2 : tie.Need-slice-read-n-2
-slice-read-n-2 c = omega (arith, full-room (c .before .before .before .pre))
+slice-read-n-2 c = omega (arith, held (c .before .before .before .pre) .room)
 
 add-n : tie.Need-add-n
-add-n c = omega (arith, full-room (c .before .before .before .pre))
+add-n c = omega (arith, held (c .before .before .before .pre) .room)
 
 wide-requires : tie.Need-wide-requires
 wide-requires c κs = search needs
 
 count-requires : tie.Need-count-requires
-count-requires c κs = omega (arith, full-room (c .before .before .before .before .before .pre))
+count-requires c κs = omega (arith, held (c .before .before .before .before .before .pre) .room)
 
 sub-t8 : tie.Need-sub-t8
 sub-t8 c = search needs
@@ -50,10 +51,12 @@ same-length c = search needs
 returns : tie.Need-returns
 unfolding evict
 returns c =
-    let full = c .before .before .before .before .before .before .before .before .before .before .before .before .before .before .before .before .before .before .pre in
-    let counted = c .before .before .before .before .before .before .before .before .before .before .before .before in
+    let second = c .before .before .before .before .before .before in
+    let first = second .before .before .before .before in
+    let counted = first .before .before in
+    let full = counted .before .before .before .before .before .before .pre in
     c .before .before .demote .ensures _
-    (passes-end full (starts counted) (c .before .before .before .before .before .before .before .before .before .before .first-pass .ensures .1) (c .before .before .before .before .before .before .second-pass .ensures .2))
+    (passes-end full (starts counted) (first .first-pass .ensures .1) (second .second-pass .ensures .2))
 
 pub evict-spec : {M : Type 1} → statement M
 evict-spec =

@@ -1,10 +1,9 @@
 -- A miss: what the evict part leaves is what place needs, and the answer is put together of both.
-use mathlib.Core.Path.{sym, _∙_}
 use borrow.Author.Needs.{needs}
 use Rattle.figures.specs.Words.{decode}
 use Rattle.figures.specs.Cart.{evict}
 use Rattle.figures.specs.Request.{cartPolicy}
-use Rattle.figures.proofs.Requests.{missed-page, missed-list, missed-moves}
+use Rattle.entries.proofs.Placed.{tells-missed}
 use Rattle.cart.proofs.Opening.{opened}
 use Rattle.cart.proofs.miss.Statement.{statement}
 use Rattle.cart.proofs.miss.Tie as tie
@@ -26,13 +25,7 @@ returns c =
     let out = c .before .before .before .before .before .before .before .evict .ensures in
     let holds = out .2 in
     let placed = c .before .before .place .ensures z (holds .words-are) (holds .short-is) (holds .long-is) in
-    record {
-      kind-is = placed .0;
-      page-is = out .0 ∙ sym (missed-page cartPolicy x z);
-      list-is = out .1 ∙ sym (missed-list cartPolicy x z);
-      moves-is = holds .moves-is ∙ sym (missed-moves cartPolicy x z);
-      words-are = placed .1;
-    }
+    tells-missed cartPolicy x z placed (out .0) (out .1) (holds .moves-is)
 
 pub miss-spec : {M : Type 1} → statement M
 miss-spec = tie.close (tie.spec evict-requires place-requires same-length returns)

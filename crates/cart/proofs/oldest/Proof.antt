@@ -1,11 +1,9 @@
+-- The number is that of the list that the definition takes from: by whether |B1| is above q, and whether B2 is empty.
 use mathlib.Core.Path.{sym}
 use native.Mathlib.Omega.{arith}
-use borrow.Author.Needs.{needs}
 use Rattle.cart.proofs.Trimming.{oldest-above, oldest-empty, oldest-other}
 use Rattle.cart.proofs.oldest.Statement.{statement}
 use Rattle.cart.proofs.oldest.Tie as tie
-use Rattle.cart.proofs.oldest.Reads as reads
-use Rattle.cart.proofs.oldest.Lts as lts
 
 returns : tie.Need-returns
 returns c =

@@ -1,30 +1,20 @@
-use mathlib.Core.Path.{_≡_, refl, sym, ap, _∙_}
-use mathlib.Core.List.{List}
-use Prim.Native.Nat.{ℕ}
+-- What `find` says of B1 and B2 decides where the page was, and with it which of the definition's places the words are.
+use mathlib.Core.Path.{refl, sym, _∙_}
 use native.Mathlib.Omega.{arith}
-use lib.ListN.{set, length-set}
+use lib.ListN.{length-set}
 use borrow.Author.Needs.{needs}
 use Rattle.figures.specs.Entry.{newLong}
 use Rattle.figures.specs.Words.{decode}
 use Rattle.figures.specs.Cart as Cart
+use Rattle.figures.specs.Request.{cartPolicy}
 use Rattle.entries.proofs.Laid.{header}
-use Rattle.entries.proofs.Indexes.{room-for-new}
+use Rattle.entries.proofs.Rooms.{room-for-new}
+use Rattle.entries.proofs.Placed.{placed-B1, placed-B2, placed-new}
 use Rattle.entries.proofs.Searching.{found-index, found-has, found-lacks}
 use Rattle.cart.proofs.Trimming.{trim-fits}
-use Rattle.cart.proofs.Placed.{placed-B1, back-B2, placed-B2, placed-new, raise-ready}
+use Rattle.cart.proofs.Placed.{back-B1, back-B2, raised-B2, raise-ready}
 use Rattle.cart.proofs.place.Statement.{statement}
 use Rattle.cart.proofs.place.Tie as tie
-use Rattle.cart.proofs.place.Reads as reads
-use Rattle.cart.proofs.place.Lts as lts
-use Rattle.cart.proofs.lowered_target.Reads as lowered-target-reads
-use Rattle.cart.proofs.raise.Reads as raise-reads
-use Rattle.cart.proofs.raised_target.Reads as raised-target-reads
-use Rattle.cart.proofs.trim.Reads as trim-reads
-use Rattle.entries.proofs.lists.come_back.Reads as come-back-reads
-use Rattle.entries.proofs.lists.place_new.Reads as place-new-reads
-use Rattle.entries.proofs.lists.start_of.Reads as start-of-reads
-use Rattle.entries.proofs.lists.wide.Reads as wide-reads
-use Rattle.entries.proofs.search.find.Reads as find-reads
 
 slice-read-wide : tie.Need-slice-read-wide
 slice-read-wide c = search needs
@@ -59,15 +49,19 @@ same-length c = search needs
 returns : tie.Need-returns
 returns c h is short long =
     let b = c .before .before in
-    let f = b .before .before .before .before .before in
-    let s = f .before .before .before .before .before .before .before .before .before in
+    let t = b .before .before in
+    let f = t .before .before .before in
+    let g = f .before .before in
+    let n = g .before .before .before .before in
+    let s = n .before .before .before in
     let w = s .args .dir .now in
     let x = s .args .page in
-    let start = f .before .before .start-of .ensures in
-    let at = found-index (h .dir) w is 2 (omega arith) _ _ x (f .find .result) (f .find .ensures .1) start (f .before .before .before .before .before .before .wide .ensures) in
-    let found = found-has (h .dir) w is 2 (omega arith) _ _ x (f .find .result) (f .find .ensures .1) start (f .before .before .before .before .before .before .wide .ensures) (omega arith) in
-    placed-B1 x h w (b .come-back .last .0) (b .before .before .raised-target .result) is found _ short (b .before .before .raised-target .ensures)
-    (b .come-back .ensures (h .dir) (newLong x) is at refl refl)
+    let says = f .find .ensures .1 in
+    let start = g .start-of .ensures in
+    let at = found-index (h .dir) w is 2 (omega arith) _ _ x _ says start (n .wide .ensures) in
+    let found = found-has (h .dir) w is 2 (omega arith) _ _ x _ says start (n .wide .ensures) (omega arith) in
+    let back = b .come-back .ensures (h .dir) (newLong x) is at refl refl in
+    placed-B1 cartPolicy x h found (back-B1 x h is short (t .raised-target .ensures) back)
 
 start-of-requires-2 : tie.Need-start-of-requires-2
 start-of-requires-2 c κs = search needs
@@ -87,70 +81,87 @@ slice-write-dir-2 c = search needs
 raise-requires : tie.Need-raise-requires
 raise-requires c κs =
     let b = c .before .before .before in
-    let f = b .before .before .before .before .before in
-    let s = f .before .before .before .before .before .before .before .before .before .before .before .before .before .before in
+    let t = b .before .before in
+    let f = t .before .before .before in
+    let n = f .before .before .before .before .before .before .before .before .before in
+    let s = n .before .before .before .before .before in
     let w = s .args .dir .now in
     let x = s .args .page in
     let o = s .pre .1 in
     let d = decode w in
     let h = header d w (o .is) in
+    let says = f .find2 .ensures .1 in
     let start = f .before .before .start-of2 .ensures in
-    let at = found-index d w (o .is) 3 (omega arith) _ _ x (f .find2 .result) (f .find2 .ensures .1) start (f .before .before .before .before .before .before .before .before .before .wide2 .ensures) in
-    let found = found-has d w (o .is) 3 (omega arith) _ _ x (f .find2 .result) (f .find2 .ensures .1) start (f .before .before .before .before .before .before .before .before .before .wide2 .ensures) (omega arith) in
-    let p = b .before .before .lowered-target .result in
-    let words = ap (λ (l : List ℕ). set l 2 p) (b .come-back2 .ensures d (newLong x) (o .is) at refl refl) in
-    raise-ready d _ _ x p words found (omega (arith, o .room)) (omega (arith, o .history-most)) (omega (arith, o .c-most)) (omega (arith, o .q-fits)) (omega (arith, o .shorts))
+    let at = found-index d w (o .is) 3 (omega arith) _ _ x _ says start (n .wide2 .ensures) in
+    let found = found-has d w (o .is) 3 (omega arith) _ _ x _ says start (n .wide2 .ensures) (omega arith) in
+    let back = b .come-back2 .ensures d (newLong x) (o .is) at refl refl in
+    raise-ready d _ x _ back found (omega (arith, o .room)) (omega (arith, o .history-most)) (omega (arith, o .c-most))
+    (omega (arith, o .q-fits)) (omega (arith, o .shorts))
 
 same-length-2 : tie.Need-same-length-2
 same-length-2 c =
-    let b = c .before .before in
-    b .raise .kept .0 ∙ length-set (b .before .before .before .before .come-back2 .last .0) 2 (b .before .before .before .before .before .before .lowered-target .result) ∙ b .before .before .before .before .come-back2 .kept .0
+    let r = c .before .before in
+    let b = r .before .before .before .before in
+    r .raise .kept .0 ∙ length-set (b .come-back2 .last .0) 2 (b .before .before .lowered-target .result) ∙ b .come-back2 .kept .0
 
 returns-2 : tie.Need-returns-2
 returns-2 c h is short long =
     let r = c .before .before in
     let b = r .before .before .before .before in
-    let f = b .before .before .before .before .before in
+    let t = b .before .before in
+    let f = t .before .before .before in
     let g = f .before .before .before .before .before in
-    let s = g .before .before .before .before .before .before .before .before .before in
+    let n = g .before .before .before .before in
+    let m = n .before .before in
+    let s = m .before .before .before in
     let w = s .args .dir .now in
     let x = s .args .page in
-    let lacks = found-lacks (h .dir) w is 2 (omega arith) _ _ x (g .find .result) (g .find .ensures .1) (g .before .before .start-of .ensures) (g .before .before .before .before .before .before .wide .ensures) (omega arith) in
+    let lacks =
+    found-lacks (h .dir) w is 2 (omega arith) _ _ x _ (g .find .ensures .1) (g .before .before .start-of .ensures) (m .wide .ensures)
+    (omega (arith, f .before .before .before .before .if1 .left)) in
+    let says = f .find2 .ensures .1 in
     let start = f .before .before .start-of2 .ensures in
-    let at = found-index (h .dir) w is 3 (omega arith) _ _ x (f .find2 .result) (f .find2 .ensures .1) start (f .before .before .before .before .before .before .before .before .before .wide2 .ensures) in
-    let found = found-has (h .dir) w is 3 (omega arith) _ _ x (f .find2 .result) (f .find2 .ensures .1) start (f .before .before .before .before .before .before .before .before .before .wide2 .ensures) (omega arith) in
-    let p = b .before .before .lowered-target .result in
-    let back = back-B2 x h w (b .come-back2 .last .0) p is _ long (b .before .before .lowered-target .ensures) (b .come-back2 .ensures (h .dir) (newLong x) is at refl refl) in
-    placed-B2 x h w (r .raise .last .0) p is lacks found _ short (r .raise .ensures (Cart.backFromB2 x h) (sym back))
+    let at = found-index (h .dir) w is 3 (omega arith) _ _ x _ says start (n .wide2 .ensures) in
+    let found = found-has (h .dir) w is 3 (omega arith) _ _ x _ says start (n .wide2 .ensures) (omega arith) in
+    let back = back-B2 x h is long (t .lowered-target .ensures) (b .come-back2 .ensures (h .dir) (newLong x) is at refl refl) in
+    placed-B2 cartPolicy x h lacks found (raised-B2 x h short (r .raise .ensures (Cart.backFromB2 x h) (sym back)))
 
 trim-requires : tie.Need-trim-requires
 trim-requires c κs = search needs
 
 place-new-requires : tie.Need-place-new-requires
 place-new-requires c κs =
-    let s = c .before .before .before .before .before .before .before .before .before .before .before .before .before .before .before .before .before .before .before .before in
+    let t = c .before .before .before in
+    let f = t .before .before .before .before .before .before .before .before in
+    let s = f .before .before .before .before .before .before .before .before .before in
     let w = s .args .dir .now in
     let d = decode w in
     let o = s .pre .1 in
     let h = header d w (o .is) in
-    let t = trim-fits d (omega (arith, o .room)) (omega (arith, o .history-most)) in
-    let words = c .before .before .before .trim .ensures d (o .is) in
-    room-for-new (Cart.trim d) _ words (omega (arith, t .room, t .same-c)) (omega (arith, t .same-c, o .c-most))
+    room-for-new d (Cart.trim d) (sym (t .trim .ensures d (o .is)))
+    (trim-fits d (omega (arith, o .room)) (omega (arith, o .history-most))) (omega (arith, o .c-most))
 
 same-length-3 : tie.Need-same-length-3
 same-length-3 c = search needs
 
 returns-3 : tie.Need-returns-3
 returns-3 c h is short long =
-    let f = c .before .before .before .before .before .before .before .before .before in
+    let t = c .before .before .before .before .before .before in
+    let f = t .before .before .before in
     let g = f .before .before .before .before .before in
-    let s = g .before .before .before .before .before .before .before .before .before in
+    let n = g .before .before .before .before in
+    let m = n .before .before in
+    let s = m .before .before .before in
     let w = s .args .dir .now in
     let x = s .args .page in
-    let not-b1 = found-lacks (h .dir) w is 2 (omega arith) _ _ x (g .find .result) (g .find .ensures .1) (g .before .before .start-of .ensures) (g .before .before .before .before .before .before .wide .ensures) (omega arith) in
-    let not-b2 = found-lacks (h .dir) w is 3 (omega arith) _ _ x (f .find2 .result) (f .find2 .ensures .1) (f .before .before .start-of2 .ensures) (f .before .before .before .before .before .before .before .before .before .wide2 .ensures) (omega (arith, c .before .before .before .before .before .before .before .before .if2 .left)) in
-    placed-new x h w (c .before .before .place-new .last .0) 0 is not-b1 not-b2
-    (c .before .before .place-new .ensures (Cart.trim (h .dir)) (sym (c .before .before .before .before .before .before .trim .ensures (h .dir) is)))
+    let not-b1 =
+    found-lacks (h .dir) w is 2 (omega arith) _ _ x _ (g .find .ensures .1) (g .before .before .start-of .ensures) (m .wide .ensures)
+    (omega (arith, f .before .before .before .before .if1 .left)) in
+    let not-b2 =
+    found-lacks (h .dir) w is 3 (omega arith) _ _ x _ (f .find2 .ensures .1) (f .before .before .start-of2 .ensures) (n .wide2 .ensures)
+    (omega (arith, t .before .before .if2 .left)) in
+    let trimmed = t .trim .ensures (h .dir) is in
+    placed-new cartPolicy x h not-b1 not-b2 (c .before .before .place-new .ensures (Cart.trim (h .dir)) (sym trimmed))
 
 pub place-spec : {M : Type 1} → statement M
 place-spec =

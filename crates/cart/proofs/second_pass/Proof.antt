@@ -48,7 +48,8 @@ loop-less c =
 loop-again : tie.Need-loop-again Inv-loop μ-loop
 loop-again c =
     let l = c .before .before .before .before .turn .ensures in
-    (l .passing, goes-on (c .before .before .before .before .before .before .before .loop .inv .1) l, c .head-flags2 .ensures (decode _) (l .passing .is), search needs)
+    let before = c .before .before .before .before .before .before .before .loop .inv in
+    (l .passing, goes-on (before .1) l, c .head-flags2 .ensures (decode _) (l .passing .is), search needs)
 
 same-length : tie.Need-same-length Inv-loop μ-loop
 same-length c = search needs

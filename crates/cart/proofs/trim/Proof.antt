@@ -1,4 +1,5 @@
-use mathlib.Core.Path.{_≡_, refl, sym, ap, _∙_}
+-- The sum that the test compares is the definition's, and `oldest` names the history that loses its head, which has one.
+use mathlib.Core.Path.{sym, ap, _∙_}
 use native.Mathlib.Omega.{arith}
 use borrow.Author.Needs.{needs}
 use Rattle.figures.specs.Words.{encode}
@@ -6,10 +7,6 @@ use Rattle.entries.proofs.Laid.{header}
 use Rattle.cart.proofs.Trimming.{oldest-has-head, trims, trims-not}
 use Rattle.cart.proofs.trim.Statement.{statement}
 use Rattle.cart.proofs.trim.Tie as tie
-use Rattle.cart.proofs.trim.Reads as reads
-use Rattle.cart.proofs.trim.Lts as lts
-use Rattle.cart.proofs.oldest.Reads as oldest-reads
-use Rattle.entries.proofs.lists.drop_head.Reads as drop-head-reads
 
 slice-read-c : tie.Need-slice-read-c
 slice-read-c c = search needs

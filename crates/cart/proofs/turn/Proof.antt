@@ -28,7 +28,9 @@ becomes-long-requires : tie.Need-becomes-long-requires
 becomes-long-requires c κs = search needs
 
 move-head-requires : tie.Need-move-head-requires
-move-head-requires c κs = (c .before .before .before .before .before .before .before .before .before .pre .0, omega (arith, t1-there (c .before .before .before .before .before .before .before .before .before)))
+move-head-requires c κs =
+    let s = c .before .before .before .before .before .before .before .before .before in
+    (s .pre .0, omega (arith, t1-there s))
 
 sub-t14 : tie.Need-sub-t14
 sub-t14 c =
@@ -36,7 +38,9 @@ sub-t14 c =
     omega (arith, short-counted (s .pre .1 .0) (t1-there s) (omega arith))
 
 add-t16 : tie.Need-add-t16
-add-t16 c = omega (arith, counts-cached (c .before .before .before .before .before .before .before .before .before .before .before .before .before .before .pre .1 .0))
+add-t16 c =
+    let s = c .before .before .before .before .before .before .before .before .before .before .before .before .before .before in
+    omega (arith, counts-cached (s .pre .1 .0))
 
 same-length : tie.Need-same-length
 same-length c = search needs
@@ -44,17 +48,22 @@ same-length c = search needs
 returns : tie.Need-returns
 returns c =
     let s = c .before .before .before .before .before .before .before .before .before .before .before .before .before .before in
-    look-makes-long (s .pre .1 .0) (s .args .f) (s .pre .1 .1 .0) (c .before .before .before .before .before .before .before .before .before .if1 .taken)
-    (λ d is. sym (c .before .before .before .before .before .before .if2 .taken) ∙ c .before .before .before .before .before .before .before .becomes-long .ensures d is) (c .before .before .before .before .move-head .ensures)
+    let t = c .before .before .before .before .before .before in
+    look-makes-long (s .pre .1 .0) (s .args .f) (s .pre .1 .1 .0) (t .before .before .before .if1 .taken)
+    (λ d is. sym (t .if2 .taken) ∙ t .before .becomes-long .ensures d is) (c .before .before .before .before .move-head .ensures)
 
 sub-move-head : tie.Need-sub-move-head
 sub-move-head c = search needs
 
 move-head-requires-2 : tie.Need-move-head-requires-2
-move-head-requires-2 c κs = (c .before .before .before .before .before .before .before .pre .0, omega (arith, t1-there (c .before .before .before .before .before .before .before)))
+move-head-requires-2 c κs =
+    let s = c .before .before .before .before .before .before .before in
+    (s .pre .0, omega (arith, t1-there s))
 
 move-head-requires-3 : tie.Need-move-head-requires-3
-move-head-requires-3 c κs = (c .before .before .before .before .before .before .before .pre .0, omega (arith, t1-there (c .before .before .before .before .before .before .before)))
+move-head-requires-3 c κs =
+    let s = c .before .before .before .before .before .before .before in
+    (s .pre .0, omega (arith, t1-there s))
 
 lower-requires : tie.Need-lower-requires
 lower-requires c κs =

@@ -1,3 +1,4 @@
+-- The check's number decides: a refusal leaves the words, and words that it accepts are sound, which is what `serve` asks for.
 use mathlib.Core.Path.{sym, _∙_}
 use native.Mathlib.Omega.{arith}
 use borrow.Author.Needs.{needs}
@@ -5,10 +6,6 @@ use Rattle.directory.proofs.Serving.{ready}
 use Rattle.directory.proofs.Requesting.{accepted-sound, requested-refused, requested-served}
 use Rattle.directory.proofs.request.Statement.{statement}
 use Rattle.directory.proofs.request.Tie as tie
-use Rattle.directory.proofs.request.Reads as reads
-use Rattle.directory.proofs.request.Lts as lts
-use Rattle.directory.proofs.check.Reads as check-reads
-use Rattle.directory.proofs.serve.Reads as serve-reads
 
 check-requires : tie.Need-check-requires
 check-requires c κs = search needs
@@ -31,7 +28,8 @@ same-length-2 c = search needs
 returns-2 : tie.Need-returns-2
 returns-2 c =
     let s = c .before .before .before .before .before .before .before .before in
-    requested-served (s .args .dir .now) (s .args .page) _ (c .before .before .before .before .before .check .ensures .number-is) (omega arith) _ _ _ _ _ (c .before .before .serve .ensures .0)
+    let accepted = c .before .before .before .before .before .check .ensures .number-is in
+    requested-served (s .args .dir .now) (s .args .page) _ accepted (omega arith) _ _ _ _ _ (c .before .before .serve .ensures .0)
 
 pub request-spec : {M : Type 1} → statement M
 request-spec =

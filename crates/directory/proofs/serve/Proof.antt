@@ -1,3 +1,4 @@
+-- What `find` says of T1 and T2 and whether the cache is full decide the way: a hit, a free place, or a miss of the policy named.
 use native.Mathlib.Omega.{arith}
 use borrow.Author.Needs.{needs}
 use Rattle.figures.specs.Words.{decode}
@@ -5,14 +6,6 @@ use Rattle.figures.specs.Request.{carPolicy, cartPolicy}
 use Rattle.directory.proofs.Serving.{words-held, place, tells-hit, tells-room, tells-full, names-car, names-cart, other-is-cart}
 use Rattle.directory.proofs.serve.Statement.{statement}
 use Rattle.directory.proofs.serve.Tie as tie
-use Rattle.directory.proofs.serve.Reads as reads
-use Rattle.directory.proofs.serve.Lts as lts
-use Rattle.car.proofs.miss.Reads as miss-reads
-use Rattle.cart.proofs.miss.Reads as miss-reads′
-use Rattle.entries.proofs.lists.mark.Reads as mark-reads
-use Rattle.entries.proofs.lists.place_new.Reads as place-new-reads
-use Rattle.entries.proofs.lists.wide.Reads as wide-reads
-use Rattle.entries.proofs.search.find.Reads as find-reads
 
 slice-read-wide : tie.Need-slice-read-wide
 slice-read-wide c = search needs
@@ -94,7 +87,8 @@ returns-3 c =
     let f = c .before .before .before .before .before .before .before .before .before .before in
     let s = f .before .before .before .before .before .before .before in
     let x = s .args .page in
-    tells-full (s .pre) x _ _ (f .find .result) (f .find .ensures .1) (omega arith) carPolicy (names-car (s .pre) (c .before .before .before .before .if3 .taken)) (omega arith) (omega arith)
+    let named = names-car (s .pre) (c .before .before .before .before .if3 .taken) in
+    tells-full (s .pre) x _ _ (f .find .result) (f .find .ensures .1) (omega arith) carPolicy named (omega arith) (omega arith)
     (c .before .before .miss .ensures)
 
 same-length-4 : tie.Need-same-length-4
@@ -105,7 +99,8 @@ returns-4 c =
     let f = c .before .before .before .before .before .before .before .before .before .before in
     let s = f .before .before .before .before .before .before .before in
     let x = s .args .page in
-    tells-full (s .pre) x _ _ (f .find .result) (f .find .ensures .1) (omega arith) cartPolicy (names-cart (s .pre) (c .before .before .before .before .if3 .left)) (omega arith) (omega arith)
+    let named = names-cart (s .pre) (c .before .before .before .before .if3 .left) in
+    tells-full (s .pre) x _ _ (f .find .result) (f .find .ensures .1) (omega arith) cartPolicy named (omega arith) (omega arith)
     (c .before .before .miss2 .ensures)
 
 pub serve-spec : {M : Type 1} → statement M

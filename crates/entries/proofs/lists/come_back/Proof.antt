@@ -89,7 +89,8 @@ returns : tie.Need-returns
 returns c d e′ is here page new =
     let s = c .before .before .before .before .before .before .before .before .before .before .before in
     let h = s .pre .1 in
-    page-to-tail (s .args .t) (s .args .b) (s .args .k) d e′ (s .args .dir .now) _ (s .args .page) (s .args .flags) (h .0) (h .1) (h .2) is (h .3) here page new _ _
+    let x = s .args in
+    page-to-tail (x .t) (x .b) (x .k) d e′ (x .dir .now) _ (x .page) (x .flags) (h .0) (h .1) (h .2) is (h .3) here page new _ _
     (c .before .before .before .before .before .before .before .before .start-of .ensures) (omega arith) (c .before .before .put-in .ensures)
 
 pub come-back-spec : {M : Type 1} → statement M

@@ -72,18 +72,26 @@ same-length c = search needs
 
 returns : tie.Need-returns
 returns c d e e′ es is front page new =
-    let s = c .before .before .before .before .before .before .before .before .before .before .before .before in
-    head-to-other-tail (s .args .i) (s .args .j) d e e′ es (s .args .dir .now) _ (s .args .flags) (s .pre .1 .0) (s .pre .1 .1) (s .pre .1 .2) is front page new _ _
-    (c .before .before .before .before .before .before .before .before .before .start-of .ensures) (c .before .before .before .before .before .before .before .start-of2 .ensures) (c .before .before .before .to-end .ensures) (c .if1 .taken)
+    let z = c .before .before .before .before .before .before .before in
+    let a = z .before .before in
+    let s = a .before .before .before in
+    let x = s .args in
+    let h = s .pre .1 in
+    head-to-other-tail (x .i) (x .j) d e e′ es (x .dir .now) _ (x .flags) (h .0) (h .1) (h .2) is front page new _ _
+    (a .start-of .ensures) (z .start-of2 .ensures) (c .before .before .before .to-end .ensures) (c .if1 .taken)
 
 same-length-2 : tie.Need-same-length-2
 same-length-2 c = search needs
 
 returns-2 : tie.Need-returns-2
 returns-2 c d e e′ es is front page new =
-    let s = c .before .before .before .before .before .before .before .before .before .before .before .before in
-    head-to-own-tail (s .args .i) (s .args .j) d e e′ es (s .args .dir .now) _ (s .args .flags) (s .pre .1 .0) (s .pre .1 .1) (s .pre .1 .2) is front page new _ _
-    (c .before .before .before .before .before .before .before .before .before .start-of .ensures) (c .before .before .before .before .before .before .before .start-of2 .ensures) (c .before .before .before .to-end .ensures) (c .if1 .left)
+    let z = c .before .before .before .before .before .before .before in
+    let a = z .before .before in
+    let s = a .before .before .before in
+    let x = s .args in
+    let h = s .pre .1 in
+    head-to-own-tail (x .i) (x .j) d e e′ es (x .dir .now) _ (x .flags) (h .0) (h .1) (h .2) is front page new _ _
+    (a .start-of .ensures) (z .start-of2 .ensures) (c .before .before .before .to-end .ensures) (c .if1 .left)
 
 pub move-head-spec : {M : Type 1} → statement M
 move-head-spec =

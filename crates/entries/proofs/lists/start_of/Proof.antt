@@ -78,13 +78,19 @@ returns : tie.Need-returns
 returns c = search needs
 
 returns-2 : tie.Need-returns-2
-returns-2 c = omega (arith, ap (λ (i : ℕ). startOf i (c .before .before .before .before .before .before .before .before .before .before .args .dir .now)) (c .match .keys2))
+returns-2 c =
+    let w = c .before .before .before .before .before .before .before .before .before .before .args .dir .now in
+    omega (arith, ap (λ (i : ℕ). startOf i w) (c .match .keys2))
 
 returns-3 : tie.Need-returns-3
-returns-3 c = omega (arith, ap (λ (i : ℕ). startOf i (c .before .before .before .before .before .before .before .before .before .before .args .dir .now)) (c .match .keys3))
+returns-3 c =
+    let w = c .before .before .before .before .before .before .before .before .before .before .args .dir .now in
+    omega (arith, ap (λ (i : ℕ). startOf i w) (c .match .keys3))
 
 returns-4 : tie.Need-returns-4
-returns-4 c = omega (arith, ap (λ (i : ℕ). startOf i (c .before .before .before .before .before .before .before .before .before .before .args .dir .now)) (c .match .keys4))
+returns-4 c =
+    let w = c .before .before .before .before .before .before .before .before .before .before .args .dir .now in
+    omega (arith, ap (λ (i : ℕ). startOf i w) (c .match .keys4))
 
 returns-5 : tie.Need-returns-5
 returns-5 c =

@@ -1,4 +1,5 @@
-use mathlib.Core.Path.{_≡_, sym, ap, _∙_}
+-- What shifts in is the flags and then the page, so that the entry stands first and the two last words fall out.
+use mathlib.Core.Path.{sym, ap, _∙_}
 use mathlib.Core.List.{List, [], _∷_, _++_}
 use Prim.Native.Nat.{ℕ}
 use native.Mathlib.Omega.{arith}
@@ -44,9 +45,11 @@ same-length c = search needs
 
 returns : tie.Need-returns
 returns c P M R h f is p q =
-    let s = c .before .before .before .before .before .before .before .before .before .args in
-    let one = pushed P (M ++ (h ∷ [])) R f (s .flags) (s .a) (s .e) p (omega (arith, length-append M (h ∷ []))) (s .dir .now) (c .before .before .before .before .before .before .shift-in .last .0)
-    (is ∙ ap (λ (l : List ℕ). P ++ l) (sym (append-snoc M h (f ∷ R)))) (c .before .before .before .before .before .before .shift-in .ensures) in
+    let t = c .before .before .before .before .before .before in
+    let s = t .before .before .before .args in
+    let one =
+    pushed P (M ++ (h ∷ [])) R f (s .flags) (s .a) (s .e) p (omega (arith, length-append M (h ∷ []))) (s .dir .now) (t .shift-in .last .0)
+    (is ∙ ap (λ (l : List ℕ). P ++ l) (sym (append-snoc M h (f ∷ R)))) (t .shift-in .ensures) in
     pushed P (s .flags ∷ M) R h (s .page) (s .a) (s .e) p (omega arith) _ (c .before .before .shift-in2 .last .0)
     (one ∙ ap (λ (l : List ℕ). P ++ (s .flags ∷ l)) (append-snoc M h R)) (c .before .before .shift-in2 .ensures)
 

@@ -1,3 +1,4 @@
+-- The entry at a, its flags set, is the first of the words from a to e, which `turn` makes the last of them.
 use borrow.Author.Needs.{needs}
 use mathlib.Core.Path.{_∙_}
 use Prim.Native.Nat.{_+_, _-_}

@@ -1,10 +1,10 @@
-use mathlib.Core.Path.{_≡_, refl, sym, ap, _∙_, subst}
+-- After i turns of the loop the first i words are those from 2 on; the two that stood first are then put last.
+use mathlib.Core.Path.{_≡_, refl, ap, _∙_}
 use Prim.Native.Nat.{ℕ, _≤_, _+_, _-_}
 use native.Mathlib.Omega.{arith}
-use borrow.Author.Needs.{needs, scaled-fits}
 use mathlib.Core.List.{List}
 use lib.ListN.{length, getD, set, length-set}
-use Rattle.entries.proofs.Turning.{moved, moved-none, moved-length, moved-more, moved-last, short}
+use Rattle.entries.proofs.Turning.{moved, moved-none, moved-more, moved-last, short}
 use Rattle.entries.proofs.stretch.turn.Statement.{statement}
 use Rattle.entries.proofs.stretch.turn.Tie as tie
 

@@ -1,0 +1,86 @@
+-- What room the words of a directory have for what the leaves do: where it is full, after the evict part, after trim.
+-- Over the policy that a directory names. Assumes nothing.
+use mathlib.Core.Path.{_≡_, refl, sym, _∙_, subst}
+use mathlib.Core.Bool.{true}
+use mathlib.Core.List.{List}
+use Prim.Native.Nat.{ℕ, _+_, _*_, _≤_}
+use native.Mathlib.Omega.{arith}
+use lib.ListN.{getD}
+use lib.Dec.{eqb}
+use Rattle.figures.specs.Choice.{if_then_else_, ∣_∣}
+use Rattle.figures.specs.Directory.{Directory, unit, cached, remembered}
+use Rattle.figures.specs.Words.{encode, decode, size, nT1, nT2, nB1, nB2}
+use Rattle.figures.specs.Sound.{car, sound}
+use Rattle.figures.proofs.Facts.{CarFacts, CartFacts, Shared, Opened, own-by}
+use Rattle.figures.proofs.Encoding.{encoded, encode-decode, words-fit}
+use Rattle.figures.proofs.Soundness.{facts-of-words}
+use Rattle.entries.specs.Stretches.{Room, startOf}
+use Rattle.entries.proofs.Laid.{header}
+
+-- Lists that fit leave room.
+pub roomy : (d : Directory) {w : List ℕ} → encode d ≡ w → cached d + remembered d ≤ 2 * d .c → d .c ≤ 1024 → Room w
+roomy d is fits small = let n = words-fit d fits in subst Room is (record { short = omega arith; held = omega arith })
+
+-- Sound words whose cache is full: what the laws of the definitions ask of them.
+pub record Filled (policy : ℕ) (w : List ℕ) : Type 0 where
+  pub is : encode (decode w) ≡ w
+  pub shared : Shared (decode w)
+  pub own : if eqb policy car then CarFacts (decode w) else CartFacts (decode w)
+  pub full : cached (decode w) ≡ decode w .c
+  pub room : Room w
+
+pub filled : {policy : ℕ} {w : List ℕ} → sound w ≡ true → getD w 0 0 ≡ policy → nT1 w + nT2 w ≡ size w → Filled policy w
+filled {w = w} is-sound named all-used =
+    let d = decode w in
+    let is = encode-decode w is-sound in
+    let f = facts-of-words w is-sound in
+    let h = header d w is in
+    let s = f .shared in
+    record {
+      is = is;
+      shared = s;
+      own = own-by f (sym (h .policy) ∙ named);
+      full = omega arith;
+      room = roomy d is (omega (arith, s .cache-fits, s .history-fits)) (s .c-most);
+    }
+
+-- After the evict part: room for one page, and the histories may hold one too many.
+pub record Freed (w : List ℕ) : Type 0 where
+  pub is : encode (decode w) ≡ w
+  pub c-least : 1 ≤ size w
+  pub c-most : size w ≤ 1024
+  pub p-fits : getD w 2 0 ≤ unit * size w
+  pub one-free : nT1 w + nT2 w + 1 ≡ size w
+  pub history-most : nB1 w + nB2 w ≤ size w + 1
+  pub room : Room w
+
+pub freed : {policy : ℕ} {w W : List ℕ} → Filled policy w → (d′ : Directory) → encode d′ ≡ W → Opened (decode w) d′ → Freed W
+freed {W = W} f d′ is o =
+    let h = header d′ W is in
+    let s = f .shared in
+    let full = f .full in
+    let c = o .same-c in
+    let p = o .same-p in
+    let less = o .one-less in
+    let more = o .one-more in
+    record {
+      is = encoded d′ is;
+      c-least = omega (arith, s .c-least);
+      c-most = omega (arith, s .c-most);
+      p-fits = omega (arith, s .p-fits);
+      one-free = omega arith;
+      history-most = omega (arith, s .history-fits);
+      room = roomy d′ is (omega (arith, s .history-fits)) (omega (arith, s .c-most));
+    }
+
+-- After trim there is room for one more entry.
+pub record Fits (d d′ : Directory) : Type 0 where
+  pub one-fits : cached d′ + remembered d′ + 1 ≤ 2 * d .c
+  pub same-c : d′ .c ≡ d .c
+
+pub room-for-new : (d d′ : Directory) {w : List ℕ} → encode d′ ≡ w → Fits d d′ → d .c ≤ 1024 → Room w × (startOf 4 w + 2 ≤ ∣ w ∣)
+room-for-new d d′ is fits small =
+    let c = fits .same-c in
+    let one = fits .one-fits in
+    let n = words-fit d′ (omega arith) in
+    subst (λ (v : List ℕ). Room v × (startOf 4 v + 2 ≤ ∣ v ∣)) is (roomy d′ refl (omega arith) (omega arith), omega arith)
