@@ -1,14 +1,10 @@
 // CART, Figure 3, in lent words: evict by its two passes and the demotion, then trim and place.
 // n_S and n_L are counted once and then kept as the figure keeps them; neither fits where the other belongs.
 ghost use mathlib.Core.Path.{_≡_};
-ghost use mathlib.Core.Bool.{Bool};
-ghost use mathlib.Core.List.{List, _∷_};
-ghost use Prim.Native.Nat.{ℕ, _+_, _-_, _*_, _/_, _≤_, min, max};
+ghost use Prim.Native.Nat.{_+_, _-_, _*_, _≤_};
 ghost use lib.ListN.{length, getD};
-ghost use Rattle.figures.specs.Entry.{Entry};
 ghost use Rattle.figures.specs.Directory.{Directory, unit, listOf};
-ghost use Rattle.figures.specs.Words.{flags, encode, decode, nT1, nT2, nB1, nB2};
-ghost use Rattle.figures.specs.Hand.{Hand};
+ghost use Rattle.figures.specs.Words.{encode, decode, nT1, nT2, nB1, nB2};
 ghost use Rattle.figures.specs.Cart as Cart;
 ghost use Rattle.figures.specs.Request.{cartPolicy, missed};
 ghost use Rattle.entries.specs.Stretches.{Room, nameOf};

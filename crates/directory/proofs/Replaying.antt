@@ -10,7 +10,7 @@ use lib.Seq.{drop-cons, drop-drop, drop-append-add, take-at, sets-eq}
 use lib.Dec.{eqb}
 use Rattle.figures.specs.Choice.{∣_∣}
 use Rattle.figures.specs.Words.{encode, decode}
-use Rattle.figures.specs.Sound.{car, sound}
+use Rattle.figures.specs.Sound.{car}
 use Rattle.figures.specs.Request.{Served, answer, request}
 use Rattle.figures.specs.Run as Run
 use Rattle.figures.specs.Run.{Ran, zeroTally, before, runFrom, run}

@@ -3,21 +3,18 @@
 use mathlib.Core.Path.{_≡_, refl, sym, ap, _∙_}
 use mathlib.Core.Bool.{Bool, true, false, not}
 use mathlib.Core.List.{List}
-use Prim.Native.Nat.{ℕ, _+_, _*_, _≤_}
+use Prim.Native.Nat.{ℕ}
 use native.Mathlib.Omega.{arith}
 use lib.ListN.{getD}
-use lib.Dec.{ltb, eqb}
+use lib.Dec.{ltb}
 use borrow.Author.Tests.{eq-eqb, ne-eqb}
 use Rattle.figures.specs.Choice.{if_then_else_, ∣_∣}
-use Rattle.figures.specs.Words.{encode, decode, size}
+use Rattle.figures.specs.Words.{decode, size}
 use Rattle.figures.specs.Sound.{knownPolicy, knownSize, exactLength, sound}
 use Rattle.figures.specs.Request.{request}
 use Rattle.figures.specs.Refusals.{checkNumber, onCheck, onRequest, Answered, refusedRequest, servedRequest}
-use Rattle.figures.specs.Demands.{mostMoves}
-use Rattle.figures.proofs.Lists.{either}
 use Rattle.figures.proofs.Moves.{request-moves-at-most}
 use Rattle.entries.specs.Answers.{Tells}
-use Rattle.directory.specs.declared.Answer.{Answer}
 use Rattle.directory.specs.Promises.{Requested}
 use Rattle.directory.proofs.Serving.{decoded-sound}
 

@@ -1,7 +1,6 @@
 // The public operations on a directory in lent words. Each is total: whatever is lent gets an answer, a refusal its number,
 // and a refused call changes no lent word. What each promises is in specs/Promises.
 ghost use mathlib.Core.Path.{_≡_};
-ghost use mathlib.Core.Bool.{Bool};
 ghost use Prim.Native.Nat.{_+_, _*_, _≤_};
 ghost use mathlib.Core.List.{_∷_, _++_};
 ghost use lib.ListN.{length, take, drop, replicate};

@@ -1,7 +1,6 @@
 // "A directory is sound when", in words whose number, policy and size are in order.
 // Sizes come first: what is read after them is where it should be.
 ghost use mathlib.Core.Path.{_≡_};
-ghost use mathlib.Core.Bool.{Bool};
 ghost use Rattle.figures.specs.Sound.{carSound, cartSound, sound};
 ghost use Rattle.directory.specs.Orderly.{Orderly, sizesFit, Held, entriesSound};
 use entries::lists;

@@ -6,7 +6,7 @@ use lib.Dec.{eqb}
 use Rattle.figures.specs.Choice.{if_then_else_, ∣_∣}
 use Rattle.figures.specs.Entry.{Entry, bits, long}
 use Rattle.figures.specs.Directory.{Name, T1, T2, B1, B2}
-use Rattle.figures.specs.Words.{nT1, nT2, nB1, nB2, used}
+use Rattle.figures.specs.Words.{nT1, nT2, nB1, used}
 
 -- The words are no more than the largest directory has, and the lists that they state fit into them.
 pub record Room (w : List ℕ) : Type 0 where

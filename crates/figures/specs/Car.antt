@@ -1,6 +1,5 @@
 -- CAR, Figure 2 of Bansal and Modha: evict (its replace(), lines 22 to 39), trim (lines 6 to 10), place (lines 14 to 19).
 -- Sizes are those at the moment a rule is read; quotients are whole, and the page itself still counts in them.
-use mathlib.Core.Bool.{Bool}
 use mathlib.Core.List.{List, [], _∷_}
 use Prim.Native.Nat.{ℕ, suc, _+_, _-_, _*_, _/_, max, min}
 use lib.Dec.{eqb}

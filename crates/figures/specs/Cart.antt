@@ -1,15 +1,15 @@
 -- CART, Figure 3 of Bansal and Modha: evict (its replace(), lines 23 to 40), trim (lines 6 to 10), place (lines 14 to 20).
 -- n_S and n_L are counted when a request begins and then kept as the figure keeps them.
-use mathlib.Core.Bool.{Bool, _&&_, _||_}
+use mathlib.Core.Bool.{Bool, _||_}
 use mathlib.Core.List.{List, [], _∷_}
 use Prim.Native.Nat.{ℕ, suc, _+_, _-_, _*_, _/_, max, min}
 use lib.Dec.{leb, ltb, eqb}
 use Rattle.figures.specs.Choice.{if_then_else_, ∣_∣}
 use Rattle.figures.specs.Entry.{Entry, Filter, S, L, newLong, cleared, madeLong}
 use Rattle.figures.specs.Entry.{bits, short, long, total, without, dropHead}
-use Rattle.figures.specs.Directory.{Directory, unit, Name, T1, T2, B1, B2, withList, withP, withQ, toTail}
-use Rattle.figures.specs.Directory.{cached, remembered, inCache, t1AtTarget}
-use Rattle.figures.specs.Hand.{Hand, begin, withDir, withCounts, turn, demote, Look, again, stop, none, repeat}
+use Rattle.figures.specs.Directory.{Directory, unit, T1, T2, B1, B2, withList, withP, withQ, toTail}
+use Rattle.figures.specs.Directory.{remembered, inCache, t1AtTarget}
+use Rattle.figures.specs.Hand.{Hand, begin, withDir, withCounts, turn, demote, Look, again, stop, repeat}
 
 -- "Raise q", lines 20 and 25. n_S counts pages of T1 and T2, so the difference is not below zero.
 abbrev pub raise : ℕ → Directory → Directory

@@ -3,11 +3,11 @@
 use mathlib.Core.Path.{_≡_}
 use mathlib.Core.Bool.{Bool, true, false}
 use mathlib.Core.List.{List, [], _∷_, _++_, map}
-use Prim.Native.Nat.{ℕ, _+_, _*_, _-_}
+use Prim.Native.Nat.{ℕ, _*_, _-_}
 use lib.ListN.{take, drop}
 use lib.Dec.{eqb}
 use Rattle.figures.specs.Choice.{if_then_else_, ∣_∣}
-use Rattle.figures.specs.Directory.{Directory, unit, fresh}
+use Rattle.figures.specs.Directory.{unit, fresh}
 use Rattle.figures.specs.Words.{words}
 use Rattle.figures.specs.Sound.{every, car, cart}
 use Rattle.figures.specs.Run.{Ran, run}

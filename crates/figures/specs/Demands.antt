@@ -1,7 +1,7 @@
 -- Every promise about the definitions, each beside the sentence that asks for it; behind it, in brackets, the file of
 -- proofs/ that proves it. A directory is meant by its value; WordsAreDirectories joins values and words.
 use mathlib.Core.Path.{_≡_}
-use mathlib.Core.Bool.{Bool, true, false, _||_}
+use mathlib.Core.Bool.{true, _||_}
 use mathlib.Core.List.{List, [], _∷_, _++_}
 use Prim.Native.Nat.{ℕ, zero, suc, _+_, _*_, _≤_}
 use lib.Dec.{eqb}

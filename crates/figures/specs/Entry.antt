@@ -2,7 +2,7 @@
 -- Entries are made by the helpers below alone, so that a further flag is added in one place.
 use mathlib.Core.Bool.{Bool, true, false}
 use mathlib.Core.List.{List, [], _∷_}
-use Prim.Native.Nat.{ℕ, _+_, _*_}
+use Prim.Native.Nat.{ℕ, _+_}
 use lib.Dec.{eqb}
 use Rattle.figures.specs.Choice.{if_then_else_}
 

@@ -1,7 +1,7 @@
 -- The evict part's moves of a head to a tail, which both figures share, and the repeat that they stand in.
 -- The hand holds the directory of the moment and what is counted on the way.
 use mathlib.Core.Path.{_≡_}
-use mathlib.Core.List.{List, [], _∷_}
+use mathlib.Core.List.{List}
 use Prim.Native.Nat.{ℕ, zero, suc, _+_}
 use Rattle.figures.specs.Entry.{Entry, bits}
 use Rattle.figures.specs.Directory.{Directory, Name, T1, T2, B1, B2, withList, toTail}

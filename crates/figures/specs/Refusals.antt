@@ -1,12 +1,12 @@
 -- The four operations as total functions: of any words, page, trace and buffer, the answer and all lent memory afterwards.
 -- A refused call's answer is its number with zeros elsewhere, and all lent memory stays.
-use mathlib.Core.Bool.{Bool, not}
-use mathlib.Core.List.{List, [], _∷_, _++_}
+use mathlib.Core.Bool.{not}
+use mathlib.Core.List.{List, _++_}
 use Prim.Native.Nat.{ℕ, _+_, _*_}
 use lib.ListN.{getD, drop}
 use lib.Dec.{ltb, eqb}
 use Rattle.figures.specs.Choice.{if_then_else_, ∣_∣}
-use Rattle.figures.specs.Directory.{Directory, fresh}
+use Rattle.figures.specs.Directory.{fresh}
 use Rattle.figures.specs.Words.{encode, decode, size}
 use Rattle.figures.specs.Sound.{knownPolicy, knownSize, exactLength, sound}
 use Rattle.figures.specs.Request.{Served, request}

@@ -1,14 +1,14 @@
 -- One request, written once over a policy: hit; or miss, with evict and trim where the cache is full; then place.
 -- Lines 1 to 21 of both figures.
-use mathlib.Core.Bool.{Bool, _||_}
+use mathlib.Core.Bool.{_||_}
 use mathlib.Core.List.{List, [], _∷_}
-use Prim.Native.Nat.{ℕ, _+_}
+use Prim.Native.Nat.{ℕ}
 use lib.Dec.{eqb}
 use Rattle.figures.specs.Choice.{if_then_else_}
-use Rattle.figures.specs.Entry.{Entry, has, mark}
+use Rattle.figures.specs.Entry.{has, mark}
 use Rattle.figures.specs.Directory.{Directory, T1, T2, withList, placeNew, cached}
 use Rattle.figures.specs.Hand.{Hand}
-use Rattle.figures.specs.Sound.{car, cart}
+use Rattle.figures.specs.Sound.{car}
 use Rattle.figures.specs.Car as Car
 use Rattle.figures.specs.Cart as Cart
 

@@ -1,13 +1,13 @@
 -- "A directory is sound when": a test on any words, a line for each phrase of document 01, in its order.
 -- Lengths are those that words 4 to 7 state, so that no damaged length escapes; entries are read through decode.
-use mathlib.Core.Bool.{Bool, true, false, not, _&&_, _||_}
+use mathlib.Core.Bool.{Bool, true, false, _&&_, _||_}
 use mathlib.Core.List.{List, [], _∷_, _++_}
 use Prim.Native.Nat.{ℕ, _+_, _*_}
 use lib.ListN.{getD, take, drop}
 use lib.Dec.{leb, ltb, eqb}
 use Rattle.figures.specs.Choice.{if_then_else_, ∣_∣}
 use Rattle.figures.specs.Entry.{Entry, bits, short, long, total, differ}
-use Rattle.figures.specs.Directory.{Directory, unit, listed}
+use Rattle.figures.specs.Directory.{unit, listed}
 use Rattle.figures.specs.Words.{decode, size, nT1, nT2, nB1, nB2, used, unused}
 
 -- All tests of the list hold.

@@ -1,9 +1,8 @@
 -- The directory as 8 + 4c words, and the words as a directory.
 -- Word 0 the policy, 1 c, 2 and 3 the targets, 4 to 7 the lengths; then the entries, two words each; then zeros.
-use mathlib.Core.Bool.{Bool}
 use mathlib.Core.List.{List, [], _∷_, _++_}
 use Prim.Native.Nat.{ℕ, zero, suc, _+_, _-_, _*_, _/_, _%_}
-use lib.ListN.{getD, take, drop, replicate}
+use lib.ListN.{getD, drop, replicate}
 use lib.Dec.{eqb}
 use Rattle.figures.specs.Choice.{if_then_else_, ∣_∣}
 use Rattle.figures.specs.Entry.{Entry, S, L, bits, long}
