@@ -15,7 +15,8 @@ use Rattle.figures.specs.Car.{look, choose}
 use Rattle.entries.specs.Stretches.{Room, nameOf, startOf}
 use Rattle.figures.proofs.Encoding.{decoded}
 use Rattle.entries.proofs.Laid.{flags-cleared}
-use Rattle.entries.proofs.Heads.{HeadAt, HeadMoved}
+use Rattle.entries.specs.Leaves.{HeadMoved}
+use Rattle.entries.proofs.Heads.{HeadAt}
 use Rattle.car.specs.Turning.{Turning, Ended}
 use Rattle.car.proofs.Readiness.{ready, turning, with-room, turned, turned-ready}
 use Rattle.car.proofs.Heads.{bit-set, bit-clear, chosenList, first-two, chosen-here, head-of}

@@ -14,7 +14,8 @@ use Rattle.figures.specs.Cart.{demotion}
 use Rattle.figures.proofs.Encoding.{decoded}
 use Rattle.entries.specs.Stretches.{startOf}
 use Rattle.entries.proofs.Laid.{header}
-use Rattle.entries.proofs.Heads.{at-target, under-target, head-at, HeadMoved}
+use Rattle.entries.specs.Leaves.{HeadMoved}
+use Rattle.entries.proofs.Heads.{at-target, under-target, head-at}
 use Rattle.cart.specs.Passing.{headFlags, Holds}
 
 module _ (h : Hand) (e : Entry) (es : List Entry) where

@@ -14,9 +14,10 @@ use Rattle.figures.specs.Cart.{cost, firstLook, secondLook, firstPass, secondPa
 use Rattle.figures.proofs.Lists.{total-append, total-at-most, bits-at-most-one, short-and-long}
 use Rattle.figures.proofs.Repeats.{ends-once}
 use Rattle.figures.proofs.Cart.{cost-at-most-two, cart-stops}
+use Rattle.entries.specs.Leaves.{OfEntries}
 use Rattle.entries.specs.Stretches.{ofFlag}
 use Rattle.entries.proofs.Laid.{header}
-use Rattle.entries.proofs.Reading.{Says, told, cache-held}
+use Rattle.entries.proofs.Reading.{told, cache-held}
 use Rattle.entries.proofs.Rooms.{Filled, filled}
 use Rattle.cart.specs.Passing.{Full, Passing, Holds, Ended}
 use Rattle.cart.proofs.Accounts.{passing}
@@ -25,7 +26,7 @@ pub held : {w : List ℕ} → Full w → Filled cart w
 held f = filled (f .is-sound) (f .is-cart) (f .is-full)
 
 -- What `count` says of the entries of T1 and T2.
-module _ {w : List ℕ} (f : Full w) (longs : ℕ) (counts : Says (λ l. longs ≡ total (ofFlag 2) l) w 8 (nT1 w + nT2 w)) where
+module _ {w : List ℕ} (f : Full w) (longs : ℕ) (counts : OfEntries w 8 (nT1 w + nT2 w) (λ l. longs ≡ total (ofFlag 2) l)) where
   counts-longs : longs ≡ inCache long (decode w)
   counts-longs =
       let a = held f in

@@ -11,6 +11,7 @@ use Rattle.figures.specs.Directory.{Directory, listOf, listed}
 use Rattle.figures.specs.Words.{decode, nT1, nT2, nB1, nB2}
 use Rattle.figures.proofs.Lists.{short-and-long}
 use Rattle.entries.specs.Stretches.{nameOf, startOf}
+use Rattle.entries.specs.Leaves.{OfEntries}
 use Rattle.entries.proofs.Laid.{Header, header, length-of-list}
 use Rattle.entries.proofs.Reading as Reading
 use Rattle.directory.specs.Orderly.{Held}
@@ -22,7 +23,7 @@ pub record Stands (w : List ℕ) (a n : ℕ) (l : List Entry) : Type 0 where
 
 -- So it is told what a search from word a′ on tells of any list of n′ entries that stands there.
 pub told : {w : List ℕ} {a n : ℕ} {l : List Entry} {Of : List Entry → Type 0} → Stands w a n l → (a′ n′ : ℕ)
-    → Reading.Says Of w a′ n′ → a ≡ a′ → n ≡ n′ → Of l
+    → OfEntries w a′ n′ Of → a ≡ a′ → n ≡ n′ → Of l
 told s a′ n′ tells at size = Reading.told (s .there) tells at (s .many ∙ size)
 
 module _ {w : List ℕ} (h : Held w) where

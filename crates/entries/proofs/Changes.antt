@@ -15,17 +15,18 @@ use Rattle.figures.specs.Request.{hit}
 use Rattle.figures.specs.Words.{flags, words, zeros, encode}
 use Rattle.figures.proofs.Lists.{HasHead, has-head, length-tail, length-marked, length-head-dropped, length-without}
 use Rattle.entries.specs.Stretches.{nameOf, startOf, index}
+use Rattle.entries.specs.Leaves.{ToEnd, PutIn, TakenOut}
 use Rattle.entries.proofs.Laid.{heads, flags-cleared, flags-marked, length-listed, insert, length-insert, listed-around, listed-tail}
 use Rattle.entries.proofs.Laid.{place, start-of-place, places-in-order, places-within, place-next, place-behind, place-before}
 use Rattle.entries.proofs.Laid.{heads-with, list-with, size-with, length-in-heads, length-of-list, length-of-other}
 use Rattle.entries.proofs.Indexes.{index-has, Around, around, mark-append}
-use Rattle.entries.proofs.Moving.{ToEnd, PutIn, TakenOut, moved-on, moved-back, added, dropped, flags-at, reflagged, Parts, parts}
+use Rattle.entries.proofs.Moving.{moved-on, moved-back, added, dropped, flags-at, reflagged, Parts, parts}
 use Rattle.entries.proofs.Moving.{no-length-set, one-length-set, two-lengths-set}
 
 -- The head of list i, as e′, at the tail of list j.
 module _ (i j : ℕ) (d : Directory) (e e′ : Entry) (es : List Entry) (w L : List ℕ) (v : ℕ) (low : i ≤ 1) (order : i ≤ j) (high : j ≤ 3)
     (is : encode d ≡ w) (front : listOf (nameOf i) d ≡ e ∷ es) (page : e′ .page ≡ e .page) (new : v ≡ flags e′)
-    (s z : ℕ) (start : s ≡ startOf i w) (end : z ≡ startOf (j + 1) w) (does : ToEnd w L s z v) where
+    (s z : ℕ) (start : s ≡ startOf i w) (end : z ≡ startOf (j + 1) w) (does : ToEnd s z v w L) where
   abbrev without-head : Directory
   without-head = withList (nameOf i) es d
 
@@ -85,7 +86,7 @@ module _ (i j : ℕ) (d : Directory) (e e′ : Entry) (es : List Entry) (w L : L
 -- The first entry for page x of list b, as e′, at the tail of list t.
 module _ (t b k : ℕ) (d : Directory) (e′ : Entry) (w L : List ℕ) (x v : ℕ) (low : t ≤ 1) (late : 2 ≤ b) (high : b ≤ 3)
     (is : encode d ≡ w) (within : k < getD w (4 + b) 0) (here : k ≡ index x (listOf (nameOf b) d)) (page : e′ .page ≡ x) (new : v ≡ flags e′)
-    (s z : ℕ) (start : s ≡ startOf (t + 1) w) (end : z ≡ startOf b w + 2 * k + 2) (does : PutIn w L s z x v) where
+    (s z : ℕ) (start : s ≡ startOf (t + 1) w) (end : z ≡ startOf b w + 2 * k + 2) (does : PutIn s z x v w L) where
   abbrev without-page : Directory
   without-page = withList (nameOf b) (without x (listOf (nameOf b) d)) d
 
@@ -133,7 +134,7 @@ module _ (t b k : ℕ) (d : Directory) (e′ : Entry) (w L : List ℕ) (x v : �
 
 -- A new page at the tail of T1.
 module _ (d : Directory) (x : ℕ) (w L : List ℕ) (is : encode d ≡ w) (room : startOf 4 w + 2 ≤ length w)
-    (s z : ℕ) (start : s ≡ startOf 1 w) (end : z ≡ startOf 4 w + 2) (does : PutIn w L s z x 0) where
+    (s z : ℕ) (start : s ≡ startOf 1 w) (end : z ≡ startOf 4 w + 2) (does : PutIn s z x 0 w L) where
   pub new-at-tail : set L 4 (getD w 4 0 + 1) ≡ encode (placeNew x d)
   unfolding placeNew
   new-at-tail =
@@ -147,7 +148,7 @@ module _ (d : Directory) (x : ℕ) (w L : List ℕ) (is : encode d ≡ w) (room 
 
 -- List b without its head.
 module _ (b : ℕ) (d : Directory) (w L : List ℕ) (high : b ≤ 3) (is : encode d ≡ w) (some : 1 ≤ getD w (4 + b) 0)
-    (fits : cached d + remembered d ≤ 2 * d .c) (s z : ℕ) (start : s ≡ startOf b w) (end : z ≡ startOf 4 w) (does : TakenOut w L s z) where
+    (fits : cached d + remembered d ≤ 2 * d .c) (s z : ℕ) (start : s ≡ startOf b w) (end : z ≡ startOf 4 w) (does : TakenOut s z w L) where
   abbrev shorter : Directory
   shorter = withList (nameOf b) (dropHead (listOf (nameOf b) d)) d
 

@@ -10,7 +10,7 @@ use lib.ListN.{getD}
 use borrow.Author.Tests.{le-leb, lt-leb}
 use Rattle.figures.specs.Choice.{∣_∣}
 use Rattle.figures.specs.Entry.{Entry}
-use Rattle.figures.specs.Directory.{Directory, unit, listOf, withList, toTail, t1AtTarget}
+use Rattle.figures.specs.Directory.{Directory, unit, listOf, t1AtTarget}
 use Rattle.figures.specs.Words.{flags, encode}
 use Rattle.entries.specs.Stretches.{nameOf, startOf}
 use Rattle.entries.proofs.Laid.{header, length-of-list}
@@ -43,9 +43,3 @@ head-at i d {w} is known some {a} start =
       page-word = rw add-zero at (e .page-word);
       flags-word = rw add-zero at (e .flags-word);
     }
-
--- What `move_head` makes of the words w: the head of list i, with flags f, is the tail of list j.
-abbrev pub HeadMoved : ℕ → ℕ → ℕ → List ℕ → List ℕ → Type 0
-HeadMoved i j f w w′ =
-    (d : Directory) (e e′ : Entry) (es : List Entry) → encode d ≡ w → listOf (nameOf i) d ≡ e ∷ es → e′ .page ≡ e .page → f ≡ flags e′
-    → w′ ≡ encode (toTail (nameOf j) e′ (withList (nameOf i) es d))

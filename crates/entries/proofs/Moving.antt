@@ -11,17 +11,8 @@ use Rattle.figures.specs.Entry.{Entry}
 use Rattle.figures.specs.Directory.{Directory, listed}
 use Rattle.figures.specs.Words.{flags, words, zeros, encode}
 use Rattle.figures.proofs.Encoding.{words-append, length-words}
+use Rattle.entries.specs.Leaves.{ToEnd, PutIn, TakenOut}
 use Rattle.entries.proofs.Laid.{heads, laid, zeros-after, insert}
-
--- What `to_end`, `put_in` and `take_out` say of the words before and after.
-abbrev pub ToEnd : List ℕ → List ℕ → ℕ → ℕ → ℕ → Type 0
-ToEnd w L a z v = (P M R : List ℕ) (h f : ℕ) → w ≡ P ++ (h ∷ f ∷ (M ++ R)) → length P ≡ a → a + 2 + length M ≡ z → L ≡ P ++ (M ++ (h ∷ v ∷ R))
-
-abbrev pub PutIn : List ℕ → List ℕ → ℕ → ℕ → ℕ → ℕ → Type 0
-PutIn w L a z x v = (P M R : List ℕ) (h f : ℕ) → w ≡ P ++ (M ++ (h ∷ f ∷ R)) → length P ≡ a → a + length M + 2 ≡ z → L ≡ P ++ (x ∷ v ∷ (M ++ R))
-
-abbrev pub TakenOut : List ℕ → List ℕ → ℕ → ℕ → Type 0
-TakenOut w L a z = (P M R : List ℕ) (h f : ℕ) → w ≡ P ++ (h ∷ f ∷ (M ++ R)) → length P ≡ a → a + 2 + length M ≡ z → L ≡ P ++ (M ++ (0 ∷ 0 ∷ R))
 
 same-zeros : (d d′ : Directory) → d′ .c ≡ d .c → ∣ listed d′ ∣ ≡ ∣ listed d ∣ → zeros d ≡ zeros d′
 same-zeros d d′ h i = zeros-after d ∙ rw (← h, ← i) (sym (zeros-after d′))
@@ -39,7 +30,7 @@ fewer-zeros d d′ h i k =
 -- The words, where the listed entries are in three parts and an entry goes over the middle one.
 module _ (d d′ : Directory) (A B C : List Entry) (e e′ : Entry) (w L : List ℕ) (s z v : ℕ) (is : encode d ≡ w)
     (size : d′ .c ≡ d .c) (start : s ≡ 8 + 2 * ∣ A ∣) (end : z ≡ s + 2 * ∣ B ∣ + 2) (x : ℕ) (page : e′ .page ≡ x) (new : v ≡ flags e′) where
-  pub moved-on : listed d ≡ A ++ (e ∷ (B ++ C)) → listed d′ ≡ A ++ (B ++ (e′ ∷ C)) → e .page ≡ x → ToEnd w L s z v
+  pub moved-on : listed d ≡ A ++ (e ∷ (B ++ C)) → listed d′ ≡ A ++ (B ++ (e′ ∷ C)) → e .page ≡ x → ToEnd s z v w L
       → L ≡ heads d ++ (words (listed d′) ++ zeros d′)
   moved-on from to same does =
       let split : w ≡ (heads d ++ words A) ++ (e .page ∷ flags e ∷ (words B ++ (words C ++ zeros d))) =
@@ -48,7 +39,7 @@ module _ (d d′ : Directory) (A B C : List Entry) (e e′ : Entry) (w L : List 
       does (heads d ++ words A) (words B) (words C ++ zeros d) (e .page) (flags e) split (omega (arith, length-words A)) (omega (arith, length-words B))
       ∙ rw (to, ← zs, new, same, ← page) (simp (words-append, append-assoc))
 
-  pub moved-back : listed d ≡ A ++ (B ++ (e ∷ C)) → listed d′ ≡ A ++ (e′ ∷ (B ++ C)) → PutIn w L s z x v
+  pub moved-back : listed d ≡ A ++ (B ++ (e ∷ C)) → listed d′ ≡ A ++ (e′ ∷ (B ++ C)) → PutIn s z x v w L
       → L ≡ heads d ++ (words (listed d′) ++ zeros d′)
   moved-back from to does =
       let split : w ≡ (heads d ++ words A) ++ (words B ++ (e .page ∷ flags e ∷ (words C ++ zeros d))) =
@@ -60,7 +51,7 @@ module _ (d d′ : Directory) (A B C : List Entry) (e e′ : Entry) (w L : List 
 -- The words, where an entry is put in among the listed ones, or one of them is dropped.
 module _ (d d′ : Directory) (A B : List Entry) (e : Entry) (w L : List ℕ) (s z : ℕ) (is : encode d ≡ w)
     (size : d′ .c ≡ d .c) (start : s ≡ 8 + 2 * ∣ A ∣) (end : z ≡ s + 2 * ∣ B ∣ + 2) where
-  pub added : listed d ≡ A ++ B → listed d′ ≡ A ++ (e ∷ B) → z ≤ length w → PutIn w L s z (e .page) (flags e)
+  pub added : listed d ≡ A ++ B → listed d′ ≡ A ++ (e ∷ B) → z ≤ length w → PutIn s z (e .page) (flags e) w L
       → L ≡ heads d ++ (words (listed d′) ++ zeros d′)
   added from to room does =
       let n : ∣ listed d ∣ ≡ ∣ A ∣ + ∣ B ∣ = rw from (length-append A B) in
@@ -73,7 +64,7 @@ module _ (d d′ : Directory) (A B : List Entry) (e : Entry) (w L : List ℕ) (s
       does (heads d ++ words A) (words B) (zeros d′) 0 0 split (omega (arith, length-words A)) (omega (arith, length-words B))
       ∙ rw to (simp (words-append, append-assoc))
 
-  pub dropped : listed d ≡ A ++ (e ∷ B) → listed d′ ≡ A ++ B → ∣ listed d ∣ ≤ 2 * d .c → TakenOut w L s z
+  pub dropped : listed d ≡ A ++ (e ∷ B) → listed d′ ≡ A ++ B → ∣ listed d ∣ ≤ 2 * d .c → TakenOut s z w L
       → L ≡ heads d ++ (words (listed d′) ++ zeros d′)
   dropped from to room does =
       let n : ∣ listed d ∣ ≡ ∣ A ∣ + ∣ B ∣ + 1 = rw from (simp length-append (omega arith)) in

@@ -12,6 +12,7 @@ use Rattle.figures.specs.Entry.{Entry, newShort}
 use Rattle.figures.specs.Directory.{Directory, listOf, listed}
 use Rattle.figures.specs.Words.{flags, words, zeros, encode}
 use Rattle.entries.specs.Stretches.{nameOf, startOf}
+use Rattle.entries.specs.Leaves.{OfEntries}
 use Rattle.figures.proofs.Encoding.{length-words, words-append}
 use Rattle.entries.proofs.Laid.{heads, laid, header}
 
@@ -56,12 +57,8 @@ entry-at {w} {a} {l} h i fits =
     let there : Held w (a + 2 * i) (e ∷ drop (i + 1) l) = rw front at (held-from h i (omega arith)) in
     record { here = e; front = front; page-word = first-page there; flags-word = first-flags there }
 
--- What a search of the n entries from word a on says of any list that stands there;
-abbrev pub Says : (List Entry → Type 0) → List ℕ → ℕ → ℕ → Type 0
-Says Of w a n = (P R : List ℕ) (l : List Entry) → w ≡ P ++ (words l ++ R) → length P ≡ a → length l ≡ n → Of l
-
--- so of this one.
-pub told : {Of : List Entry → Type 0} {w : List ℕ} {a a′ n : ℕ} {l : List Entry} → Held w a l → Says Of w a′ n → a ≡ a′ → ∣ l ∣ ≡ n → Of l
+-- What a search says of every list that stands there it says of this one.
+pub told : {Of : List Entry → Type 0} {w : List ℕ} {a a′ n : ℕ} {l : List Entry} → Held w a l → OfEntries w a′ n Of → a ≡ a′ → ∣ l ∣ ≡ n → Of l
 told {l = l} h says at many = says (h .before) (h .after) l (h .parts) (h .starts ∙ at) many
 
 -- The words of a directory hold any stretch of its listed entries,

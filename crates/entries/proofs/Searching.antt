@@ -11,9 +11,10 @@ use Rattle.figures.specs.Choice.{∣_∣}
 use Rattle.figures.specs.Entry.{Entry, has, differ}
 use Rattle.figures.specs.Directory.{Directory, listOf}
 use Rattle.figures.specs.Words.{encode}
+use Rattle.entries.specs.Leaves.{OfEntries}
 use Rattle.entries.specs.Stretches.{nameOf, startOf, index}
 use Rattle.entries.proofs.Laid.{length-of-list}
-use Rattle.entries.proofs.Reading.{Held, held-from, EntryAt, entry-at, Says, told, list-held}
+use Rattle.entries.proofs.Reading.{Held, held-from, EntryAt, entry-at, told, list-held}
 use Rattle.entries.proofs.Indexes.{index-has, index-lacks}
 
 module _ {w : List ℕ} {a : ℕ} {l : List Entry} {i : ℕ} (s : EntryAt w a l i) (x : ℕ) where
@@ -25,7 +26,7 @@ module _ {w : List ℕ} {a : ℕ} {l : List Entry} {i : ℕ} (s : EntryAt w a l 
 
 -- Page x stands at k among the n entries from word a on, as `find` says.
 abbrev pub Found : List ℕ → ℕ → ℕ → ℕ → ℕ → Type 0
-Found w a n x k = Says (λ l. k ≡ index x l) w a n
+Found w a n x k = OfEntries w a n (λ l. k ≡ index x l)
 
 -- the page of entry i, looked for among the later entries
 module _ {w : List ℕ} {a n i k : ℕ} {l : List Entry} (h : Held w a l) (many : length l ≡ n) (inside : i < n)

@@ -12,7 +12,7 @@ use Rattle.figures.specs.Sound.{car}
 use Rattle.figures.specs.Car as Car
 use Rattle.figures.specs.Cart as Cart
 
--- What the two policies differ in. (Later policies may differ in placeNew too.)
+-- A policy: what a miss does. The rest of a request is the same for all.
 pub record Policy : Type 0 where
   pub evict : Directory → Hand
   pub trim : Directory → Directory
