@@ -1,12 +1,12 @@
 -- The runs that document 01 shows, P1 to P12, and traces that show the errors that look right: what each must come to.
 -- A case replays its trace from a fresh directory; what it shows is the last request's answer and the directory then.
 use mathlib.Core.Path.{_≡_}
-use mathlib.Core.Bool.{Bool, true, false}
+use mathlib.Core.Bool.{Bool, true}
 use mathlib.Core.List.{List, [], _∷_, _++_, map}
 use Prim.Native.Nat.{ℕ, _*_, _-_}
 use lib.ListN.{take, drop}
 use lib.Dec.{eqb}
-use Rattle.figures.specs.Choice.{if_then_else_, ∣_∣}
+use Rattle.figures.specs.Choice.{∣_∣, same}
 use Rattle.figures.specs.Directory.{unit, fresh}
 use Rattle.figures.specs.Words.{words}
 use Rattle.figures.specs.Sound.{every, car, cart}
@@ -25,12 +25,6 @@ pub record Case : Type 0 where
   pub c : ℕ
   pub trace : List ℕ
   pub shows : List Shown
-
-abbrev pub same : List ℕ → List ℕ → Bool
-same [] [] = true
-same [] (y ∷ b) = false
-same (x ∷ a) [] = false
-same (x ∷ a) (y ∷ b) = if eqb x y then same a b else false
 
 abbrev pub shown : Ran → Shown → Bool
 shown r (answered kind page list moves) =

@@ -34,6 +34,15 @@ tooManyPages = 5
 abbrev pub bufferTooShort : ℕ
 bufferTooShort = 6
 
+abbrev pub sheetTooLong : ℕ
+sheetTooLong = 7
+
+abbrev pub noSuchLine : ℕ
+noSuchLine = 8
+
+abbrev pub notInForm : ℕ
+notInForm = 9
+
 -- "Fresh directory: 1, 2, 3."
 unfoldable pub freshNumber : ℕ → ℕ → List ℕ → ℕ
 freshNumber policy c w =

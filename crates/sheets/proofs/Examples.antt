@@ -1,0 +1,67 @@
+-- The worked examples hold, each by computation.
+-- Assumes nothing.
+use mathlib.Core.Path.{refl}
+use Rattle.sheets.specs.Number.{whole, missCost, digitsForm}
+use Rattle.sheets.specs.Bid.{policyLine, sizeLine, costLine, pageLine, inOrder, meaning}
+use Rattle.sheets.specs.Result.{decimal, milliseconds, resultSheet, refusedSheet}
+use Rattle.sheets.specs.Examples.{MissCosts, WholeNumbers, Sheets, LookedUp, Results}
+
+pub miss-costs : MissCosts
+unfolding digitsForm missCost
+miss-costs = record {
+  comma-kept = refl;
+  nothing = refl;
+  most = refl;
+  no-comma = refl;
+  a-point = refl;
+  leading-zero = refl;
+  two-digits = refl;
+  four-digits = refl;
+  five-before = refl;
+  none-before = refl;
+  two-commas = refl;
+}
+
+pub whole-numbers : WholeNumbers
+unfolding digitsForm whole
+whole-numbers = record {
+  zero-itself = refl;
+  most = refl;
+  too-many = refl;
+  eleven-digits = refl;
+  leading-zero = refl;
+  empty = refl;
+  a-return = refl;
+}
+
+pub sheets : Sheets
+unfolding digitsForm whole missCost policyLine sizeLine costLine pageLine inOrder meaning
+sheets = record {
+  the-worked = refl;
+  empty = refl;
+  blank-policy = refl;
+  cart-policy = refl;
+  unknown-policy = refl;
+  key-before-value = refl;
+  size-out-of-range = refl;
+  size-not-in-form = refl;
+  cost-not-in-form = refl;
+  a-return-before-the-line-feed = refl;
+  no-final-line-feed = refl;
+  first-wrong-decides = refl;
+  an-empty-line = refl;
+}
+
+pub looked-up : LookedUp
+looked-up = record {
+  third-value = refl;
+  first-equals = refl;
+  empty-value = refl;
+  line-zero = refl;
+  no-equals = refl;
+  not-closed = refl;
+}
+
+pub results : Results
+unfolding decimal milliseconds resultSheet refusedSheet
+results = record { the-worked = refl; a-refusal = refl; }

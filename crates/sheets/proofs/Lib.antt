@@ -1,0 +1,2 @@
+-- The proofs of what specs/ states. Each statement's comment in specs/Demands names the file that proves it.
+pub mod Examples

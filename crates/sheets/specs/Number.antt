@@ -1,0 +1,66 @@
+-- The form of a number, once: whole numbers, and the miss cost with its comma.
+-- Whatever reads a number on a sheet cites `digitsForm` and `value`.
+use mathlib.Core.Bool.{Bool, true, false, not}
+use mathlib.Core.List.{List, [], _∷_}
+use Prim.Native.Nat.{ℕ, _+_, _-_, _*_}
+use lib.ListN.{getD, take, drop}
+use lib.Dec.{leb, eqb}
+use Rattle.figures.specs.Choice.{if_then_else_, ∣_∣}
+use Rattle.figures.specs.Sound.{every}
+use Rattle.figures.specs.Refusals.{notInForm}
+use Rattle.sheets.specs.Text.{placeOf}
+
+-- What the value of a line comes to: a number, or the number of a refusal.
+pub data Value : Type 0 where
+  means : ℕ → Value
+  wrong : ℕ → Value
+
+-- The bytes "0" and ","
+abbrev pub zeroDigit : ℕ
+zeroDigit = 48
+
+abbrev pub comma : ℕ
+comma = 44
+
+abbrev pub isDigit : ℕ → Bool
+isDigit b = if leb zeroDigit b then leb b (zeroDigit + 9) else false
+
+abbrev pub allDigits : List ℕ → Bool
+allDigits [] = true
+allDigits (b ∷ s) = if isDigit b then allDigits s else false
+
+-- What digits are worth behind a number n that was read before them.
+abbrev pub valueAfter : ℕ → List ℕ → ℕ
+valueAfter n [] = n
+valueAfter n (b ∷ s) = valueAfter (10 * n + (b - zeroDigit)) s
+
+abbrev pub value : List ℕ → ℕ
+value s = valueAfter 0 s
+
+-- "no leading zero except 0 itself"
+abbrev pub noLeadingZero : List ℕ → Bool
+noLeadingZero s = if eqb ∣ s ∣ 1 then true else not (eqb (getD s 0 0) zeroDigit)
+
+-- "1 to 10 digits, no leading zero except 0 itself", and "1 to 4 digits under the same leading-zero rule"
+unfoldable pub digitsForm : ℕ → List ℕ → Bool
+digitsForm most s = every (leb 1 ∣ s ∣ ∷ leb ∣ s ∣ most ∷ allDigits s ∷ noLeadingZero s ∷ [])
+
+-- "Whole numbers are 1 to 10 digits, no leading zero except 0 itself, at most 4,294,967,295."
+abbrev pub wholeForm : List ℕ → Bool
+wholeForm s = if digitsForm 10 s then leb (value s) 4294967295 else false
+
+unfoldable pub whole : List ℕ → Value
+whole s = if wholeForm s then means (value s) else wrong notInForm
+
+-- "The miss cost is milliseconds: 1 to 4 digits under the same leading-zero rule, a comma, exactly three digits."
+abbrev pub beforeComma : List ℕ → List ℕ
+beforeComma s = take (placeOf comma s) s
+
+abbrev pub afterComma : List ℕ → List ℕ
+afterComma s = drop (placeOf comma s + 1) s
+
+abbrev pub costForm : List ℕ → Bool
+costForm s = every (digitsForm 4 (beforeComma s) ∷ eqb ∣ afterComma s ∣ 3 ∷ allDigits (afterComma s) ∷ [])
+
+unfoldable pub missCost : List ℕ → Value
+missCost s = if costForm s then means (1000 * value (beforeComma s) + value (afterComma s)) else wrong notInForm

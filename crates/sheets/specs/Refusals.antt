@@ -1,0 +1,82 @@
+-- Reader, look-up and writer as total functions: of any bytes and buffers, the answer and all lent memory afterwards.
+-- A refused call's answer is its number with zeros elsewhere (the reader: also the line), and all lent memory stays.
+use mathlib.Core.Bool.{Bool, not}
+use mathlib.Core.List.{List, _++_}
+use Prim.Native.Nat.{ℕ}
+use lib.ListN.{drop}
+use lib.Dec.{ltb}
+use Rattle.figures.specs.Choice.{if_then_else_, ∣_∣}
+use Rattle.figures.specs.Sound.{knownPolicy}
+use Rattle.figures.specs.Refusals.{accepted, policyNotKnown, bufferTooShort, sheetTooLong, noSuchLine}
+use Rattle.sheets.specs.Lines.{lines}
+use Rattle.sheets.specs.Bid.{Bid, Meaning, bid, refused, meaning}
+use Rattle.sheets.specs.LookUp.{Place, between, nowhere, valueOf}
+use Rattle.sheets.specs.Result.{Result, resultSheet}
+
+-- What is written stands in front; later words stay.
+abbrev pub over : List ℕ → List ℕ → List ℕ
+over written buffer = written ++ drop ∣ written ∣ buffer
+
+-- "The sheet reader answers policy, c, miss cost in thousandths and count of pages".
+pub record Read : Type 0 where
+  pub number : ℕ
+  pub line : ℕ
+  pub policy : ℕ
+  pub c : ℕ
+  pub cost : ℕ
+  pub count : ℕ
+  pub pages : List ℕ
+
+abbrev pub answer : Meaning → List ℕ → Read
+answer (bid b) buffer = record {
+  number = accepted;
+  line = 0;
+  policy = b .policy;
+  c = b .c;
+  cost = b .cost;
+  count = ∣ b .pages ∣;
+  pages = over (b .pages) buffer;
+}
+answer (refused number line) buffer = record {
+  number = number;
+  line = line;
+  policy = 0;
+  c = 0;
+  cost = 0;
+  count = 0;
+  pages = buffer;
+}
+
+-- "Sheet reader: 6, 7, then lines from the top."
+unfoldable pub onRead : List ℕ → List ℕ → Read
+onRead sheet buffer =
+    if ltb ∣ buffer ∣ 1000 then answer (refused bufferTooShort 0) buffer
+    else answer (meaning sheet) buffer
+
+-- The look-up's number, and the stretch of the sheet that is its part: from 0 to 0 where it is refused.
+pub record Found : Type 0 where
+  pub number : ℕ
+  pub start : ℕ
+  pub stop : ℕ
+
+abbrev pub foundAt : Place → Found
+foundAt (between start stop) = record { number = accepted; start = start; stop = stop }
+foundAt nowhere = record { number = noSuchLine; start = 0; stop = 0 }
+
+-- "Look-up: 7, then 8 (no such closed line, no `=`, or line 0)."
+unfoldable pub onLookUp : List ℕ → ℕ → Found
+onLookUp sheet line =
+    if ltb 16000 ∣ sheet ∣ then record { number = sheetTooLong; start = 0; stop = 0 }
+    else foundAt (valueOf 0 line (lines sheet))
+
+pub record Written : Type 0 where
+  pub number : ℕ
+  pub count : ℕ
+  pub out : List ℕ
+
+-- "Result writer: 1, 6."
+unfoldable pub onWrite : Result → List ℕ → Written
+onWrite r out =
+    if not (knownPolicy (r .policy)) then record { number = policyNotKnown; count = 0; out = out }
+    else if ltb ∣ out ∣ 256 then record { number = bufferTooShort; count = 0; out = out }
+    else record { number = accepted; count = ∣ resultSheet r ∣; out = over (resultSheet r) out }
