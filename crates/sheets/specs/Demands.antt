@@ -6,7 +6,7 @@ use Prim.Native.Nat.{ℕ, _+_, _*_, _^_, _/_, _%_, _≤_, _<_}
 use Rattle.figures.specs.Choice.{∣_∣}
 use Rattle.sheets.specs.Number.{means, value, whole, beforeComma, afterComma, missCost}
 use Rattle.sheets.specs.Bid.{Bid, bid, meaning}
-use Rattle.sheets.specs.Result.{Result, decimal, milliseconds, resultSheet}
+use Rattle.sheets.specs.Result.{Outcome, decimal, milliseconds, resultSheet}
 
 -- "every number that the writer writes is read back by the number's definition as that number"
 
@@ -27,7 +27,7 @@ abbrev pub CostReadBack : Type 0
 CostReadBack = (cost : ℕ) → cost < 10000000 → missCost (milliseconds cost) ≡ means cost
 
 -- "The result sheet is written into at least 256 lent bytes": it fits, whatever 32-bit numbers and 64-bit wait. [Lengths]
-pub record Fits (r : Result) : Type 0 where
+pub record Fits (r : Outcome) : Type 0 where
   pub pages-fit : r .pages < 2 ^ 32
   pub requests-fit : r .requests < 2 ^ 32
   pub hits-fit : r .hits < 2 ^ 32
@@ -37,7 +37,7 @@ pub record Fits (r : Result) : Type 0 where
   pub wait-fits : r .wait < 2 ^ 64
 
 abbrev pub ResultFits : Type 0
-ResultFits = (r : Result) → Fits r → ∣ resultSheet r ∣ ≤ 256
+ResultFits = (r : Outcome) → Fits r → ∣ resultSheet r ∣ ≤ 256
 
 -- What an accepted bid holds: pages, c and cost in their ranges. [Bids]
 pub record InRange (b : Bid) : Type 0 where

@@ -10,7 +10,7 @@ use Rattle.sheets.specs.Number.{Value, means, wrong, whole, missCost}
 use Rattle.sheets.specs.Lines.{lines}
 use Rattle.sheets.specs.Bid.{Bid, Meaning, bid, refused, meaning}
 use Rattle.sheets.specs.LookUp.{Place, between, nowhere, valueOf}
-use Rattle.sheets.specs.Result.{Result, resultSheet, refusedSheet}
+use Rattle.sheets.specs.Result.{Outcome, resultSheet, refusedSheet}
 
 -- "So `1,250` is 1,250 thousandths, `0,000` is good; `1250`, `1.250`, `01,250` and `1,25` are refused."
 pub record MissCosts : Type 0 where
@@ -69,8 +69,8 @@ pub record LookedUp : Type 0 where
   pub no-equals : valueOf 0 1 (lines (bytes "x\n=\n")) ≡ nowhere
   pub not-closed : valueOf 0 2 (lines (bytes "a=1\nb=2")) ≡ nowhere
 
-abbrev pub workedResult : Result
-workedResult = record {
+abbrev pub workedOutcome : Outcome
+workedOutcome = record {
   policy = car;
   pages = 2;
   requests = 8;
@@ -82,6 +82,6 @@ workedResult = record {
 }
 
 pub record Results : Type 0 where
-  pub the-worked : resultSheet workedResult ≡
+  pub the-worked : resultSheet workedOutcome ≡
     bytes "policy=car\npages=2\nrequests=8\nhits=2\nmisses=6\nevictions=4\nsteps=6\nwait=7,500\n"
   pub a-refusal : refusedSheet 8 1 ≡ bytes "refused=8\nline=1\n"

@@ -11,7 +11,7 @@ use Rattle.figures.specs.Refusals.{accepted, policyNotKnown, bufferTooShort, sh
 use Rattle.sheets.specs.Lines.{lines}
 use Rattle.sheets.specs.Bid.{Bid, Meaning, bid, refused, meaning}
 use Rattle.sheets.specs.LookUp.{Place, between, nowhere, valueOf}
-use Rattle.sheets.specs.Result.{Result, resultSheet}
+use Rattle.sheets.specs.Result.{Outcome, resultSheet}
 
 -- What is written stands in front; later words stay.
 abbrev pub over : List ℕ → List ℕ → List ℕ
@@ -75,7 +75,7 @@ pub record Written : Type 0 where
   pub out : List ℕ
 
 -- "Result writer: 1, 6."
-unfoldable pub onWrite : Result → List ℕ → Written
+unfoldable pub onWrite : Outcome → List ℕ → Written
 onWrite r out =
     if not (knownPolicy (r .policy)) then record { number = policyNotKnown; count = 0; out = out }
     else if ltb ∣ out ∣ 256 then record { number = bufferTooShort; count = 0; out = out }

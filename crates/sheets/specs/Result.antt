@@ -31,7 +31,7 @@ threeDigits n = lastDigit (n / 100) ∷ lastDigit (n / 10) ∷ lastDigit n ∷ [
 unfoldable pub milliseconds : ℕ → List ℕ
 milliseconds thousandths = decimal (thousandths / 1000) ++ (comma ∷ threeDigits (thousandths % 1000))
 
-pub record Result : Type 0 where
+pub record Outcome : Type 0 where
   pub policy : ℕ
   pub pages : ℕ
   pub requests : ℕ
@@ -48,7 +48,7 @@ policyName policy = if eqb policy car then bytes "car" else bytes "cart"
 abbrev pub lineOf : List ℕ → List ℕ → List ℕ
 lineOf key value = key ++ (value ++ (lineFeed ∷ []))
 
-unfoldable pub resultSheet : Result → List ℕ
+unfoldable pub resultSheet : Outcome → List ℕ
 resultSheet r =
     lineOf (bytes "policy=") (policyName (r .policy))
     ++ (lineOf (bytes "pages=") (decimal (r .pages))

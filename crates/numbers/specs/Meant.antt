@@ -1,0 +1,10 @@
+-- What the cases of a number mean, by document 01.
+use Prim.Native.Nat.{ℕ}
+use Rattle.figures.specs.Refusals.{notInForm}
+use Rattle.sheets.specs.Number.{Value, means, wrong}
+use Rattle.numbers.specs.declared.Number.{Number}
+use Rattle.numbers.specs.declared.Number.the-variants.{Means, NotInForm}
+
+abbrev pub meant : Number → Value
+meant (Means n) = means n
+meant NotInForm = wrong notInForm

@@ -1,0 +1,69 @@
+// The numbers on a sheet: whole ones, and the miss cost with its comma.
+// Both functions take any bytes; a number's form is the sheets' definition of it.
+ghost use mathlib.Core.Path.{_≡_};
+ghost use mathlib.Core.Bool.{true};
+ghost use Prim.Native.Nat.{_≤_};
+ghost use lib.ListN.{length};
+ghost use Rattle.sheets.specs.Number.{allDigits, digitsForm};
+ghost use Rattle.sheets.specs.Number.{value as Number·value, whole as Number·whole, missCost};
+ghost use Rattle.numbers.specs.Meant.{meant};
+
+pub enum Number {
+    Means(u32),
+    NotInForm,
+}
+
+fn all_digits(text: &[u8]) -> bool
+    ensures { λ r. ⌜ r ≡ allDigits (now (text .entry)) ⌝ }
+{
+    let mut i = 0;
+    while i < text.len() {
+        if text[i] < 48 || 57 < text[i] {
+            return false;
+        }
+        i += 1;
+    }
+    true
+}
+
+// At least one and at most so many digits, no leading zero except 0 itself.
+fn in_form(text: &[u8], most: usize) -> bool
+    ensures { λ r. ⌜ r ≡ digitsForm most (now (text .entry)) ⌝ }
+{
+    let n = text.len();
+    if n < 1 || most < n {
+        return false;
+    }
+    if n != 1 && text[0] == 48 {
+        return false;
+    }
+    all_digits(text)
+}
+
+// What digits are worth: ten of them fit.
+fn value(text: &[u8]) -> u64
+    requires { ⌜ allDigits (now text) ≡ true ⌝ }
+    requires { ⌜ length (now text) ≤ 10 ⌝ }
+    ensures { λ r. ⌜ r ≡ Number·value (now (text .entry)) ⌝ }
+{
+    let mut n = 0;
+    let mut i = 0;
+    while i < text.len() {
+        n = 10 * n + (text[i] - 48) as u64;
+        i += 1;
+    }
+    n
+}
+
+pub fn whole(text: &[u8]) -> Number
+    ensures { λ r. ⌜ meant r ≡ Number·whole (now (text .entry)) ⌝ }
+{
+    if !in_form(text, 10) {
+        return Number::NotInForm;
+    }
+    let n = value(text);
+    if 4294967295 < n {
+        return Number::NotInForm;
+    }
+    Number::Means(n as u32)
+}
