@@ -1,12 +1,8 @@
 // A sheet's lines, read from the front: a cursor over the sheet, and the look-up by line number.
 // Every function takes any bytes; the look-up hands back a part of the caller's own slice.
 ghost use mathlib.Core.Path.{_≡_};
-ghost use Prim.Native.Nat.{_+_, _-_, _≤_};
-ghost use lib.ListN.{length};
-ghost use Rattle.sheets.specs.Text.{placeOf, starts};
-ghost use Rattle.sheets.specs.Refusals.{onLookUp};
 ghost use Rattle.lines.specs.Cursor.{lineAt};
-ghost use Rattle.lines.specs.Stretch.{Stretch, LookedUp};
+ghost use Rattle.lines.specs.Stretch.{LookedUp};
 
 // The line at a place: closed by the line feed at another, or not there.
 pub enum Line {
@@ -33,36 +29,6 @@ struct Span {
     stop: usize,
 }
 
-// The place of the first such byte, the length where there is none.
-pub fn place_of(bytes: &[u8], byte: u8) -> usize
-    ensures { λ r. ⌜ (r ≡ placeOf byte (now (bytes .entry))) × (r ≤ length (now (bytes .entry))) ⌝ }
-{
-    let mut i = 0;
-    while i < bytes.len() {
-        if bytes[i] == byte {
-            return i;
-        }
-        i += 1;
-    }
-    i
-}
-
-pub fn starts_with(bytes: &[u8], key: &[u8]) -> bool
-    ensures { λ r. ⌜ r ≡ starts (now (key .entry)) (now (bytes .entry)) ⌝ }
-{
-    if bytes.len() < key.len() {
-        return false;
-    }
-    let mut i = 0;
-    while i < key.len() {
-        if bytes[i] != key[i] {
-            return false;
-        }
-        i += 1;
-    }
-    true
-}
-
 // The cursor: the line that starts at this place.
 fn line_from(sheet: &[u8], at: usize) -> Line
     ensures { λ r. ⌜ r ≡ lineAt (now (sheet .entry)) at ⌝ }
@@ -70,7 +36,7 @@ fn line_from(sheet: &[u8], at: usize) -> Line
     if sheet.len() <= at {
         return Line::Missing;
     }
-    let end = at + place_of(&sheet[at..], 10);
+    let end = at + text::place_of(&sheet[at..], 10);
     if end < sheet.len() {
         Line::Closed(end)
     } else {
