@@ -64,4 +64,4 @@ looked-up = record {
 
 pub results : Results
 unfolding decimal milliseconds resultSheet refusedSheet
-results = record { the-worked = refl; a-refusal = refl; }
+results = record { the-worked = refl; a-refusal = refl }

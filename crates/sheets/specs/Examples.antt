@@ -83,5 +83,5 @@ workedOutcome = record {
 
 pub record Results : Type 0 where
   pub the-worked : resultSheet workedOutcome ≡
-    bytes "policy=car\npages=2\nrequests=8\nhits=2\nmisses=6\nevictions=4\nsteps=6\nwait=7,500\n"
+      bytes "policy=car\npages=2\nrequests=8\nhits=2\nmisses=6\nevictions=4\nsteps=6\nwait=7,500\n"
   pub a-refusal : refusedSheet 8 1 ≡ bytes "refused=8\nline=1\n"

@@ -1,20 +1,26 @@
+-- The bytes before i are those of the key, so the rest decides.
+use mathlib.Core.Path.{_≡_, refl, sym, ap, _∙_}
+use Prim.Native.Nat.{_≤_, _-_}
+use native.Mathlib.Omega.{arith}
+use lib.ListN.{length, drop, drop-of-length-le}
+use Rattle.sheets.specs.Text.{starts}
+use Rattle.sheets.proofs.Text.{short-lacks, key-goes-on, key-differs}
 use borrow.Author.Needs.{needs}
 use Rattle.text.proofs.starts_with.Statement.{statement}
 use Rattle.text.proofs.starts_with.Tie as tie
-use Rattle.text.proofs.starts_with.Reads as reads
-use Rattle.text.proofs.starts_with.Lts as lts
 
 abbrev Inv-loop : tie.InvT-loop
-Inv-loop bytes key i₀ i = ?
+Inv-loop bytes key i₀ i =
+    (i ≤ length key) × (length key ≤ length bytes) × (starts key bytes ≡ starts (drop i key) (drop i bytes))
 
 abbrev μ-loop : tie.MeasureT-loop
-μ-loop bytes key i₀ i = ?
+μ-loop bytes key i₀ i = length key - i
 
 returns : tie.Need-returns Inv-loop μ-loop
-returns c = search needs
+returns c = sym (short-lacks (c .before .args .key .now) (c .before .args .bytes .now) (c .if1 .taken))
 
 loop-holds : tie.Need-loop-holds Inv-loop μ-loop
-loop-holds c = search needs
+loop-holds c = (omega arith, omega arith, refl)
 
 shared-slice-read-if2 : tie.Need-shared-slice-read-if2 Inv-loop μ-loop
 shared-slice-read-if2 c = search needs
@@ -23,19 +29,30 @@ shared-slice-read-if2-2 : tie.Need-shared-slice-read-if2-2 Inv-loop μ-loop
 shared-slice-read-if2-2 c = search needs
 
 returns-2 : tie.Need-returns-2 Inv-loop μ-loop
-returns-2 c = search needs
+returns-2 c =
+    let v = c .before .before .before .before .loop in
+    let a = c .before .before .before .before .before .before .args in
+    sym (v .inv .2 ∙ key-differs (a .key .now) (a .bytes .now) (v .i) (omega arith) (omega arith) (c .if2 .taken))
 
 add-i : tie.Need-add-i Inv-loop μ-loop
 add-i c = search needs
 
 loop-less : tie.Need-loop-less Inv-loop μ-loop
-loop-less c = search needs
+loop-less c = omega arith
 
 loop-again : tie.Need-loop-again Inv-loop μ-loop
-loop-again c = search needs
+loop-again c =
+    let v = c .before .before .before .before .loop in
+    let a = c .before .before .before .before .before .before .args in
+    let goes-on = key-goes-on (a .key .now) (a .bytes .now) (v .i) (omega arith) (omega arith) (c .if2 .left) in
+    (omega arith, v .inv .1, v .inv .2 ∙ goes-on)
 
 returns-3 : tie.Need-returns-3 Inv-loop μ-loop
-returns-3 c = search needs
+returns-3 c =
+    let v = c .before .loop in
+    let a = c .before .before .before .args in
+    let ended = drop-of-length-le (a .key .now) {i = v .i} (omega arith) in
+    sym (v .inv .2 ∙ ap (λ k. starts k (drop (v .i) (a .bytes .now))) ended)
 
 pub starts-with-spec : {M : Type 1} → statement M
 starts-with-spec =

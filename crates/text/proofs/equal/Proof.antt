@@ -1,0 +1,23 @@
+-- Bytes of one length are the same when one starts with the other; of two lengths they are not.
+use mathlib.Core.Path.{sym, _∙_}
+use borrow.Author.Needs.{needs}
+use borrow.Author.Tests.{ne-eqb}
+use Rattle.sheets.proofs.Text.{same-starts, lengths-differ}
+use Rattle.text.proofs.equal.Statement.{statement}
+use Rattle.text.proofs.equal.Tie as tie
+
+starts-with-requires : tie.Need-starts-with-requires
+starts-with-requires c κs = search needs
+
+returns : tie.Need-returns
+returns c =
+    let a = c .before .before .before .before .args in
+    c .starts-with .ensures ∙ sym (same-starts (a .bytes .now) (a .other .now) (c .before .if1 .taken))
+
+returns-2 : tie.Need-returns-2
+returns-2 c =
+    let a = c .before .before .before .args in
+    ne-eqb _ _ (c .if1 .left) ∙ sym (lengths-differ (a .bytes .now) (a .other .now) (c .if1 .left))
+
+pub equal-spec : {M : Type 1} → statement M
+equal-spec = tie.close (tie.spec starts-with-requires returns returns-2)
