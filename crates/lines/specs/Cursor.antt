@@ -1,5 +1,6 @@
 -- The cursor's answer: where the line that starts at a place of the sheet is closed.
--- The look-up's spans: what document 01 says of each.
+-- The look-up's spans: number and places as the definition has them, and the places within the sheet.
+use mathlib.Core.Path.{_≡_}
 use mathlib.Core.Bool.{Bool}
 use mathlib.Core.List.{List}
 use Prim.Native.Nat.{ℕ, _+_, _≤_}
@@ -8,6 +9,8 @@ use lib.Dec.{ltb}
 use Rattle.figures.specs.Choice.{if_then_else_, ∣_∣}
 use Rattle.sheets.specs.Text.{placeOf}
 use Rattle.sheets.specs.Lines.{lineFeed}
+use Rattle.sheets.specs.Refusals.{Found}
+use Rattle.lines.specs.declared.Span.{Span}
 use Rattle.lines.specs.declared.Line.{Line}
 use Rattle.lines.specs.declared.Line.the-variants.{Closed, Missing}
 
@@ -15,3 +18,15 @@ abbrev pub lineAt : List ℕ → ℕ → Line
 lineAt s at =
     let n = placeOf lineFeed (drop at s) in
     if ltb (at + n) ∣ s ∣ then Closed (at + n) else Missing
+
+-- A span that is what the look-up's definition finds, and lies in the sheet.
+pub record SpanOf (s : List ℕ) (found : Found) (r : Span) : Type 0 where
+  pub number-is : r .number ≡ found .number
+  pub start-is : r .start ≡ found .start
+  pub stop-is : r .stop ≡ found .stop
+  pub ordered : r .start ≤ r .stop
+  pub inside : r .stop ≤ ∣ s ∣
+
+-- "a refused call's answer is its number with zeros elsewhere"
+abbrev pub refusal : ℕ → Span
+refusal number = record { number = number; start = 0; stop = 0 }

@@ -1,8 +1,19 @@
 // A sheet's lines, read from the front: a cursor over the sheet, and the look-up by line number.
 // Every function takes any bytes; the look-up hands back a part of the caller's own slice.
 ghost use mathlib.Core.Path.{_≡_};
-ghost use Rattle.lines.specs.Cursor.{lineAt};
-ghost use Rattle.lines.specs.Stretch.{LookedUp};
+ghost use Prim.Native.Nat.{_-_, _≤_};
+ghost use lib.ListN.{length, take, drop};
+ghost use Rattle.sheets.specs.LookUp.{valueIn};
+ghost use Rattle.sheets.specs.Refusals.{foundAt, onLookUp};
+ghost use Rattle.lines.specs.Cursor.{lineAt, SpanOf, refusal};
+ghost use Rattle.lines.specs.Stretch.{Stretch, LookedUp};
+
+// Refusal numbers, and the most bytes that a sheet has.
+const SHEET_TOO_LONG: u32 = 7;
+
+const NO_SUCH_LINE: u32 = 8;
+
+const MOST_BYTES: usize = 16000;
 
 // The line at a place: closed by the line feed at another, or not there.
 pub enum Line {
@@ -22,11 +33,11 @@ pub struct Found<'a> {
     pub part: &'a [u8],
 }
 
-// Where the look-up's part stands.
-struct Span {
-    number: u32,
-    start: usize,
-    stop: usize,
+// The look-up's number and the place of its part, without the part itself.
+pub struct Span {
+    pub number: u32,
+    pub start: usize,
+    pub stop: usize,
 }
 
 // The cursor: the line that starts at this place.
@@ -36,7 +47,7 @@ fn line_from(sheet: &[u8], at: usize) -> Line
     if sheet.len() <= at {
         return Line::Missing;
     }
-    let end = at + text::place_of(&sheet[at..], 10);
+    let end = at + text::place_of(&sheet[at..], b'\n');
     if end < sheet.len() {
         Line::Closed(end)
     } else {
@@ -56,4 +67,82 @@ pub fn line_at(sheet: &[u8], at: usize) -> Line
     ensures { λ r. ⌜ r ≡ lineAt (now (sheet .entry)) at ⌝ }
 {
     next_line(SheetReader { sheet, at })
+}
+
+// A refused look-up's span is empty.
+fn refused(number: u32) -> Span
+    ensures { λ r. ⌜ r ≡ refusal number ⌝ }
+{
+    Span {
+        number,
+        start: 0,
+        stop: 0,
+    }
+}
+
+// The value of the line from `at` to its line feed at `end`: what follows the first `=`.
+fn value_in(sheet: &[u8], at: usize, end: usize) -> Span
+    requires { ⌜ (at ≤ end) × (end ≤ length (now sheet)) ⌝ }
+    ensures { λ r. ⌜ SpanOf (now (sheet .entry)) (foundAt (valueIn at (take (end - at) (drop at (now (sheet .entry)))))) r ⌝ }
+{
+    let equals = at + text::place_of(&sheet[at..end], b'=');
+    if equals < end {
+        Span {
+            number: 0,
+            start: equals + 1,
+            stop: end,
+        }
+    } else {
+        refused(NO_SUCH_LINE)
+    }
+}
+
+// The look-up's number and place, for callers that want no part; line `n` starts at `at`.
+pub fn span_of(sheet: &[u8], line: u32) -> Span
+    ensures { λ r. ⌜ SpanOf (now (sheet .entry)) (onLookUp (now (sheet .entry)) line) r ⌝ }
+{
+    if MOST_BYTES < sheet.len() {
+        return refused(SHEET_TOO_LONG);
+    }
+    let mut n = 1;
+    let mut at = 0;
+    while n <= line {
+        let Line::Closed(end) = line_at(sheet, at) else {
+            return refused(NO_SUCH_LINE);
+        };
+        if n == line {
+            return value_in(sheet, at, end);
+        }
+        at = end + 1;
+        n += 1;
+    }
+    refused(NO_SUCH_LINE)
+}
+
+// The part itself: it starts that many bytes on in the caller's slice.
+fn cut(sheet: &[u8], start: usize, stop: usize) -> &[u8]
+    requires { ⌜ (start ≤ stop) × (stop ≤ length (now sheet)) ⌝ }
+    ensures { λ r. ⌜ Stretch (sheet .entry) start stop r ⌝ }
+{
+    &sheet[start..stop]
+}
+
+// The look-up by line number, from 1: the span is found once, and the part is cut by it.
+pub fn look_up<'a>(sheet: &'a [u8], line: u32) -> Found<'a>
+    ensures { λ r. ⌜ LookedUp (sheet .entry) line r ⌝ }
+{
+    let span = span_of(sheet, line);
+    let part = cut(sheet, span.start, span.stop);
+    Found {
+        number: span.number,
+        part,
+    }
+}
+
+// The look-up's part alone, for callers that keep no answer with a reference in it.
+pub fn part_of(sheet: &[u8], line: u32) -> &[u8]
+    ensures { λ r. ⌜ Stretch (sheet .entry)
+        (onLookUp (now (sheet .entry)) line .start) (onLookUp (now (sheet .entry)) line .stop) r ⌝ }
+{
+    look_up(sheet, line).part
 }

@@ -1,5 +1,4 @@
 -- What the cases of a number mean, by document 01.
-use Prim.Native.Nat.{ℕ}
 use Rattle.figures.specs.Refusals.{notInForm}
 use Rattle.sheets.specs.Number.{Value, means, wrong}
 use Rattle.numbers.specs.declared.Number.{Number}

@@ -2,9 +2,9 @@
 // Both functions take any bytes; a number's form is the sheets' definition of it.
 ghost use mathlib.Core.Path.{_≡_};
 ghost use mathlib.Core.Bool.{true};
-ghost use Prim.Native.Nat.{_≤_};
+ghost use Prim.Native.Nat.{_+_, _*_, _≤_};
 ghost use lib.ListN.{length};
-ghost use Rattle.sheets.specs.Number.{allDigits, digitsForm};
+ghost use Rattle.sheets.specs.Number.{isDigit, allDigits, digitsForm};
 ghost use Rattle.sheets.specs.Number.{value as Number·value, whole as Number·whole, missCost};
 ghost use Rattle.numbers.specs.Meant.{meant};
 
@@ -13,12 +13,18 @@ pub enum Number {
     NotInForm,
 }
 
+fn is_digit(byte: u8) -> bool
+    ensures { λ r. ⌜ r ≡ isDigit byte ⌝ }
+{
+    b'0' <= byte && byte <= b'9'
+}
+
 fn all_digits(text: &[u8]) -> bool
     ensures { λ r. ⌜ r ≡ allDigits (now (text .entry)) ⌝ }
 {
     let mut i = 0;
     while i < text.len() {
-        if text[i] < 48 || 57 < text[i] {
+        if !is_digit(text[i]) {
             return false;
         }
         i += 1;
@@ -31,13 +37,10 @@ fn in_form(text: &[u8], most: usize) -> bool
     ensures { λ r. ⌜ r ≡ digitsForm most (now (text .entry)) ⌝ }
 {
     let n = text.len();
-    if n < 1 || most < n {
+    if n < 1 || most < n || !all_digits(text) {
         return false;
     }
-    if n != 1 && text[0] == 48 {
-        return false;
-    }
-    all_digits(text)
+    n == 1 || text[0] != b'0'
 }
 
 // What digits are worth: ten of them fit.
@@ -49,7 +52,7 @@ fn value(text: &[u8]) -> u64
     let mut n = 0;
     let mut i = 0;
     while i < text.len() {
-        n = 10 * n + (text[i] - 48) as u64;
+        n = 10 * n + (text[i] - b'0') as u64;
         i += 1;
     }
     n
@@ -66,4 +69,28 @@ pub fn whole(text: &[u8]) -> Number
         return Number::NotInForm;
     }
     Number::Means(n as u32)
+}
+
+// Milliseconds and the three digits behind them, in thousandths.
+fn thousandths(before: &[u8], after: &[u8]) -> u32
+    requires { ⌜ (allDigits (now before) ≡ true) × (length (now before) ≤ 4) ⌝ }
+    requires { ⌜ (allDigits (now after) ≡ true) × (length (now after) ≤ 3) ⌝ }
+    ensures { λ r. ⌜ r ≡ 1000 * Number·value (now (before .entry)) + Number·value (now (after .entry)) ⌝ }
+{
+    (1000 * value(before) + value(after)) as u32
+}
+
+pub fn miss_cost(text: &[u8]) -> Number
+    ensures { λ r. ⌜ meant r ≡ missCost (now (text .entry)) ⌝ }
+{
+    let n = text::place_of(text, b',');
+    if text.len() != n + 4 {
+        return Number::NotInForm;
+    }
+    let before = &text[..n];
+    let after = &text[n + 1..];
+    if !in_form(before, 4) || !all_digits(after) {
+        return Number::NotInForm;
+    }
+    Number::Means(thousandths(before, after))
 }

@@ -5,6 +5,10 @@ use Prim.Native.Nat.{ℕ, _+_, _≤_}
 use lib.ListN.{take, drop}
 use Rattle.figures.specs.Choice.{∣_∣}
 
+-- What is to be put fits into w from the place on.
+pub record Room (w : List ℕ) (at : ℕ) (put : List ℕ) : Type 0 where
+  pub fits : at + ∣ put ∣ ≤ ∣ w ∣
+
 pub record Put (w : List ℕ) (at : ℕ) (put : List ℕ) (w′ : List ℕ) (next : ℕ) : Type 0 where
   pub next-is : next ≡ at + ∣ put ∣
   pub front-is : take next w′ ≡ take at w ++ put

@@ -1,0 +1,102 @@
+-- The pages counted and those of the lines from here on are the pages of all page lines.
+use mathlib.Core.Path.{_≡_, sym, ap, subst, _∙_}
+use Prim.Native.Nat.{_≤_, _+_, _-_}
+use native.Mathlib.Omega.{arith}
+use lib.ListN.{length, drop, drop-of-length-le}
+use borrow.Author.Needs.{needs}
+use Rattle.sheets.specs.Lines.{lines}
+use Rattle.sheets.specs.Bid.{pagesFrom}
+use Rattle.bid.specs.Answers.{Reads, sizeOf}
+use Rattle.bid.specs.declared.Listed.the-variants as Listed
+use Rattle.bid.proofs.Listing.{PageRead, page-read, page-wrong, after, after-none, counts-on}
+use Rattle.bid.proofs.count_pages.Statement.{statement}
+use Rattle.bid.proofs.count_pages.Tie as tie
+use Rattle.bid.proofs.count_pages.Reads as reads
+use Rattle.bid.proofs.count_pages.Lts as lts
+use Rattle.bid.proofs.keyed_lines.number_of.Reads as number-of-reads
+use Rattle.bid.proofs.keyed_lines.page_line.Reads as page-line-reads
+
+abbrev Inv-loop : tie.InvT-loop
+Inv-loop sheet start at₀ count₀ at count =
+    (count ≤ 1000)
+    × (sizeOf (pagesFrom 0 (lines (drop start sheet))) ≡ after count (sizeOf (pagesFrom count (lines (drop at sheet)))))
+
+abbrev μ-loop : tie.MeasureT-loop
+μ-loop sheet start at₀ count₀ at count = length sheet - at
+
+-- A good page line, in the loop.
+abbrev Read : Type 0
+Read =
+    lts.After-page
+    (page-line-reads.Asked, page-line-reads.Learnt, number-of-reads.Asked, number-of-reads.Learnt)
+    reads.Pre
+    reads.Post
+    Inv-loop
+    μ-loop
+
+good-page : (c : Read)
+    → PageRead (c .before .before .before .before .before .before .args .sheet .now) (c .before .before .before .before .loop .at) (c .before .before .before .before .loop .count) (c .page .given .0 .0) (c .page .given .0 .1 .0)
+good-page c = page-read _ _ _ _ _ (subst (Reads _ _ _) (c .page .given .1) (c .before .before .page-line .ensures))
+
+loop-holds : tie.Need-loop-holds Inv-loop μ-loop
+loop-holds c =
+    (omega arith, after-none (pagesFrom 0 (lines (drop (c .before .args .start) (c .before .args .sheet .now)))))
+
+page-line-requires : tie.Need-page-line-requires Inv-loop μ-loop
+page-line-requires c κs = search needs
+
+enum-known-page : tie.Need-enum-known-page Inv-loop μ-loop
+enum-known-page c = search needs
+
+number-of-requires : tie.Need-number-of-requires Inv-loop μ-loop
+number-of-requires c κs = search needs
+
+add-t10 : tie.Need-add-t10 Inv-loop μ-loop
+add-t10 c = let few = c .before .before .before .before .loop .inv .0 in search needs
+
+returns : tie.Need-returns Inv-loop μ-loop
+returns c =
+    let s = c .before .before .before .before .before .before .args .sheet .now in
+    let v = c .before .before .before .before .loop in
+    let wrong = page-wrong s (v .at) (v .count) _ (c .before .before .before .loop-test .taken) (c .before .match .keys2) (c .before .before .page-line .ensures) in
+    ap (λ number. Listed.Refused number (v .count + 4)) (c .number-of .ensures)
+    ∙ sym (v .inv .1 ∙ ap (λ ps. after (v .count) (sizeOf ps)) wrong)
+
+add-count : tie.Need-add-count Inv-loop μ-loop
+add-count c = let few = good-page (c .before) .one-of-thousand in search needs
+
+loop-less : tie.Need-loop-less Inv-loop μ-loop
+loop-less c = let h = good-page (c .before) in omega arith
+
+loop-again : tie.Need-loop-again Inv-loop μ-loop
+loop-again c =
+    let h = good-page (c .before) in
+    let v = c .before .before .before .before .before .loop in (
+      omega arith,
+      v .inv .1 ∙ counts-on _ _ _ _ _ h,
+    )
+
+returns-2 : tie.Need-returns-2 Inv-loop μ-loop
+returns-2 c =
+    let s = c .before .before .before .args .sheet .now in
+    let v = c .before .loop in
+    let ended = drop-of-length-le s {i = v .at} (c .loop-test .left) in
+    let all : v .count ≡ v .count + 0 = omega arith in
+    ap Listed.Pages all ∙ sym (v .inv .1 ∙ ap (λ t. after (v .count) (sizeOf (pagesFrom (v .count) (lines t)))) ended)
+
+pub count-pages-spec : {M : Type 1} → statement M
+count-pages-spec =
+    tie.close
+    (tie.spec
+    Inv-loop
+    μ-loop
+    loop-holds
+    page-line-requires
+    enum-known-page
+    number-of-requires
+    add-t10
+    returns
+    add-count
+    loop-less
+    loop-again
+    returns-2)

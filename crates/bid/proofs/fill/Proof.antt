@@ -1,0 +1,100 @@
+-- The pages written, and those of the lines from here on, are the pages of all page lines.
+use mathlib.Core.Path.{_≡_, refl, subst, _∙_}
+use Prim.Native.Nat.{_≤_, _<_, _-_}
+use native.Mathlib.Omega.{arith}
+use lib.ListN.{length, length-set}
+use borrow.Author.Needs.{needs}
+use Rattle.bid.specs.Answers.{Reads}
+use Rattle.bid.proofs.Listing.{PageRead, page-read, page-wrong, Writing, nothing-written, writes-on, all-written, never-wrong}
+use Rattle.bid.proofs.fill.Statement.{statement}
+use Rattle.bid.proofs.fill.Tie as tie
+use Rattle.bid.proofs.fill.Reads as reads
+use Rattle.bid.proofs.fill.Lts as lts
+use Rattle.bid.proofs.keyed_lines.page_line.Reads as page-line-reads
+
+abbrev Inv-loop : tie.InvT-loop
+Inv-loop sheet start pages₀ at₀ count₀ pages at count =
+    (count ≤ 1000) × (length pages ≡ length pages₀) × Writing sheet start pages₀ at count pages
+
+abbrev μ-loop : tie.MeasureT-loop
+μ-loop sheet start pages₀ at₀ count₀ pages at count = length sheet - at
+
+-- A good page line, in the loop, and room for its page.
+abbrev Read : Type 0
+Read = lts.After-page (page-line-reads.Asked, page-line-reads.Learnt) reads.Pre reads.Post Inv-loop μ-loop
+
+good-page : (c : Read)
+    → PageRead (c .before .before .before .before .before .before .before .args .sheet .now) (c .before .before .before .before .loop .at) (c .before .before .before .before .loop .count) (c .page .given .0 .0) (c .page .given .0 .1 .0)
+good-page c = page-read _ _ _ _ _ (subst (Reads _ _ _) (c .page .given .1) (c .before .before .page-line .ensures))
+
+roomy : (c : Read) → c .before .before .before .before .loop .count < length (c .before .before .before .before .before .before .before .args .pages .now)
+roomy c = let few = good-page c .one-of-thousand in omega (arith, c .before .before .before .before .before .before .before .pre)
+
+loop-holds : tie.Need-loop-holds Inv-loop μ-loop
+loop-holds c = (omega arith, refl, nothing-written _ _ _)
+
+page-line-requires : tie.Need-page-line-requires Inv-loop μ-loop
+page-line-requires c κs = search needs
+
+enum-known-page : tie.Need-enum-known-page Inv-loop μ-loop
+enum-known-page c = search needs
+
+same-length : tie.Need-same-length Inv-loop μ-loop
+same-length c = let h = c .before .before .before .loop .inv .1 in search needs
+
+returns : tie.Need-returns Inv-loop μ-loop
+returns c =
+    let s = c .before .before .before .before .before .before .args .sheet .now in
+    let v = c .before .before .before .loop in
+    never-wrong _ _ _ _ _ _ (v .inv .2) _ _
+    (page-wrong s (v .at) (v .count) _ (c .before .before .loop-test .taken) (c .match .keys2) (c .before .page-line .ensures))
+
+cast-pages : tie.Need-cast-pages Inv-loop μ-loop
+cast-pages c = let few = good-page (c .before) .one-of-thousand in search needs
+
+mul-pages : tie.Need-mul-pages Inv-loop μ-loop
+mul-pages c = let few = good-page (c .before) .one-of-thousand in search needs
+
+slice-write-pages : tie.Need-slice-write-pages Inv-loop μ-loop
+slice-write-pages c = let room = roomy (c .before) in omega (arith, c .before .before .before .before .before .loop .inv .1)
+
+add-count : tie.Need-add-count Inv-loop μ-loop
+add-count c = let few = good-page (c .before) .one-of-thousand in search needs
+
+loop-less : tie.Need-loop-less Inv-loop μ-loop
+loop-less c = let h = good-page (c .before) in omega arith
+
+loop-again : tie.Need-loop-again Inv-loop μ-loop
+loop-again c =
+    let h = good-page (c .before) in
+    let v = c .before .before .before .before .before .loop in (
+      omega arith,
+      length-set (v .pages) (v .count) _ ∙ v .inv .1,
+      writes-on _ _ _ _ _ _ (v .inv .2) _ _ (roomy (c .before)) h,
+    )
+
+same-length-2 : tie.Need-same-length-2 Inv-loop μ-loop
+same-length-2 c = let h = c .before .loop .inv .1 in search needs
+
+returns-2 : tie.Need-returns-2 Inv-loop μ-loop
+returns-2 c = all-written _ _ _ _ _ _ (c .before .loop .inv .2) (c .loop-test .left)
+
+pub fill-spec : {M : Type 1} → statement M
+fill-spec =
+    tie.close
+    (tie.spec
+    Inv-loop
+    μ-loop
+    loop-holds
+    page-line-requires
+    enum-known-page
+    same-length
+    returns
+    cast-pages
+    mul-pages
+    slice-write-pages
+    add-count
+    loop-less
+    loop-again
+    same-length-2
+    returns-2)

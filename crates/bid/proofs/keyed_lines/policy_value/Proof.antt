@@ -1,0 +1,72 @@
+-- The value is compared in the definition's order: blank, car, cart.
+use mathlib.Core.Path.{_≡_, refl, sym, _∙_}
+use mathlib.Core.Bool.{Bool, true, false}
+use mathlib.Core.List.{List, []}
+use Prim.Native.Nat.{ℕ}
+use borrow.Author.Needs.{needs}
+use Rattle.figures.specs.Choice.{if_then_else_, same}
+use Rattle.figures.specs.Sound.{car, cart}
+use Rattle.sheets.specs.Text.{bytes}
+use Rattle.sheets.specs.Bid.{PolicyValue, named, blank, unknown, policyValue}
+use Rattle.sheets.proofs.Text.{same-starts, lengths-differ}
+use Rattle.bid.proofs.keyed_lines.policy_value.Statement.{statement}
+use Rattle.bid.proofs.keyed_lines.policy_value.Tie as tie
+
+-- The value by the outcome of the three tests.
+abbrev chosen : Bool → Bool → Bool → PolicyValue
+chosen a b c = if a then blank else if b then named car else if c then named cart else unknown
+
+by-tests : (s : List ℕ) {a b c : Bool} → same s (bytes "") ≡ a → same s (bytes "car") ≡ b → same s (bytes "cart") ≡ c
+    → chosen a b c ≡ policyValue s
+by-tests s e f g = rw (sym e, sym f, sym g) refl
+
+returns : tie.Need-returns
+returns c =
+    let s = c .before .before .args .text .now in
+    by-tests s (same-starts s [] (c .if1 .taken)) refl refl
+
+slice-aggregate-equal : tie.Need-slice-aggregate-equal
+slice-aggregate-equal c = search needs
+
+equal-requires : tie.Need-equal-requires
+equal-requires c κs = search needs
+
+returns-2 : tie.Need-returns-2
+returns-2 c =
+    let s = c .before .before .before .before .before .args .text .now in
+    by-tests s (lengths-differ s [] (c .before .before .before .if1 .left)) (sym (c .before .equal .ensures) ∙ c .if2 .taken) refl
+
+slice-aggregate-equal-2 : tie.Need-slice-aggregate-equal-2
+slice-aggregate-equal-2 c = search needs
+
+equal-requires-2 : tie.Need-equal-requires-2
+equal-requires-2 c κs = search needs
+
+returns-3 : tie.Need-returns-3
+returns-3 c =
+    let s = c .before .before .before .before .before .before .before .before .args .text .now in
+    by-tests s
+    (lengths-differ s [] (c .before .before .before .before .before .before .if1 .left))
+    (sym (c .before .before .before .before .equal .ensures) ∙ c .before .before .before .if2 .left)
+    (sym (c .before .equal2 .ensures) ∙ c .if3 .taken)
+
+returns-4 : tie.Need-returns-4
+returns-4 c =
+    let s = c .before .before .before .before .before .before .before .before .args .text .now in
+    by-tests s
+    (lengths-differ s [] (c .before .before .before .before .before .before .if1 .left))
+    (sym (c .before .before .before .before .equal .ensures) ∙ c .before .before .before .if2 .left)
+    (sym (c .before .equal2 .ensures) ∙ c .if3 .left)
+
+pub policy-value-spec : {M : Type 1} → statement M
+policy-value-spec =
+    tie.close
+    (tie.spec
+    returns
+    slice-aggregate-equal
+    equal-requires
+    returns-2
+    slice-aggregate-equal-2
+    equal-requires-2
+    returns-3
+    returns-4)

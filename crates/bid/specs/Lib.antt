@@ -1,0 +1,3 @@
+-- What the contracts of this crate cite: the answers' cases by document 01's numbers and values, and the reader's promise.
+pub mod Answers
+pub mod Promises

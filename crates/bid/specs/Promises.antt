@@ -1,0 +1,25 @@
+-- The reader's promise: the answer and every lent word afterwards, for every input, refused ones too.
+-- It is fixed by the total function of sheets' Refusals; proofs/Determined shows that two outcomes it allows are equal.
+use mathlib.Core.Path.{_≡_}
+use mathlib.Core.List.{List}
+use Prim.Native.Nat.{ℕ}
+use Rattle.sheets.specs.Refusals.{Read, onRead}
+use Rattle.bid.specs.declared.Bid.{Bid}
+
+-- A refused sheet's answer: "its number with zeros elsewhere (the sheet reader: also the line ..)".
+abbrev pub refusedBid : ℕ → ℕ → Bid
+refusedBid number line = record { number = number; line = line; policy = 0; c = 0; cost = 0; count = 0 }
+
+-- The answer and the words are those that a definition gives.
+pub record Answers (defined : Read) (r : Bid) (pages′ : List ℕ) : Type 0 where
+  pub number-is : r .number ≡ defined .number
+  pub line-is : r .line ≡ defined .line
+  pub policy-is : r .policy ≡ defined .policy
+  pub c-is : r .c ≡ defined .c
+  pub cost-is : r .cost ≡ defined .cost
+  pub count-is : r .count ≡ defined .count
+  pub words-are : pages′ ≡ defined .pages
+
+-- read(sheet, pages) -> Bid
+abbrev pub BidRead : List ℕ → List ℕ → Bid → List ℕ → Type 0
+BidRead sheet pages r pages′ = Answers (onRead sheet pages) r pages′

@@ -1,0 +1,100 @@
+-- Where the value of a line stands: in the line at a place, in a line further on, or nowhere.
+-- Assumes nothing.
+use mathlib.Core.Path.{_≡_, refl, sym, ap, subst, _∙_}
+use mathlib.Core.Bool.{Bool}
+use mathlib.Core.List.{List}
+use Prim.Native.Nat.{ℕ, zero, suc, _+_, _-_, _≤_, _<_}
+use native.Mathlib.Omega.{arith}
+use lib.ListN.{take, drop, length-drop}
+use lib.Seq.{length-take-le}
+use borrow.Author.Tests.{lt-ltb, le-ltb}
+use Rattle.figures.specs.Choice.{if_then_else_, ∣_∣}
+use Rattle.figures.specs.Refusals.{accepted, sheetTooLong, noSuchLine}
+use Rattle.sheets.specs.Text.{placeOf}
+use Rattle.sheets.specs.Lines.{lines}
+use Rattle.sheets.specs.LookUp.{Place, between, nowhere, equalsSign, valueIn, valueOf}
+use Rattle.sheets.specs.Refusals.{Found, foundAt, onLookUp}
+use Rattle.lines.specs.Cursor.{SpanOf, refusal}
+use Rattle.lines.specs.declared.Span.{Span}
+use Rattle.lines.proofs.Cursor.{ClosedAt, MissingAt, ended, not-closed}
+
+-- THE VALUE OF ONE LINE
+
+module _ (s : List ℕ) (at stop : ℕ) (from : at ≤ stop) (inside : stop ≤ ∣ s ∣) where
+  -- The line's bytes.
+  abbrev bytesOf : List ℕ
+  bytesOf = take (stop - at) (drop at s)
+
+  pub line-length : ∣ bytesOf ∣ ≡ stop - at
+  line-length = length-take-le (stop - at) (drop at s) (omega (arith, length-drop at s))
+
+  abbrev placed : Bool → Place
+  placed t = if t then between (at + placeOf equalsSign bytesOf + 1) (at + ∣ bytesOf ∣) else nowhere
+
+  module _ (n : ℕ) (first : n ≡ placeOf equalsSign bytesOf) where
+    pub value-here : at + n < stop → valueIn at bytesOf ≡ between (at + n + 1) stop
+    value-here h =
+        let width : at + ∣ bytesOf ∣ ≡ stop = omega (arith, line-length) in
+        let before : placeOf equalsSign bytesOf < ∣ bytesOf ∣ = omega (arith, line-length) in
+        ap placed (lt-ltb _ _ before) ∙ rw (← first, width) refl
+
+    pub no-value : stop ≤ at + n → valueIn at bytesOf ≡ nowhere
+    no-value h =
+        let past : ∣ bytesOf ∣ ≤ placeOf equalsSign bytesOf = omega (arith, line-length) in ap placed (le-ltb _ _ past)
+
+-- THE LINES FROM A PLACE ON
+
+abbrev pub valueFrom : List ℕ → ℕ → ℕ → Place
+valueFrom s at n = valueOf at n (lines (drop at s))
+
+module _ (s : List ℕ) (at : ℕ) where
+  module _ (stop : ℕ) (closed : ClosedAt s at stop) where
+    pub in-this-line : valueFrom s at 1 ≡ valueIn at (take (stop - at) (drop at s))
+    in-this-line = ap (valueOf at 1) (closed .reads)
+
+    pub in-a-later-line : (n : ℕ) → valueFrom s at (suc (suc n)) ≡ valueFrom s (stop + 1) (suc n)
+    in-a-later-line n =
+        let l = take (stop - at) (drop at s) in
+        let part = line-length s at stop (closed .from) (omega (arith, closed .inside)) in
+        let width : at + ∣ l ∣ ≡ stop = omega (arith, closed .from) in
+        ap (valueOf at (suc (suc n))) (closed .reads)
+        ∙ ap (λ (m : ℕ). valueOf (m + 1) (suc n) (lines (drop (stop + 1) s))) width
+
+  pub in-no-line : (n : ℕ) → MissingAt s at → valueFrom s at n ≡ nowhere
+  in-no-line zero h = refl
+  in-no-line (suc n) (ended past is) = ap (valueOf at (suc n)) is
+  in-no-line (suc n) (not-closed some is) = ap (valueOf at (suc n)) is
+
+-- SPANS
+
+-- A refusal's span is in every sheet.
+refused-span : (s : List ℕ) (number : ℕ)
+    → SpanOf s (record { number = number; start = 0; stop = 0 }) (refusal number)
+refused-span s number =
+    record { number-is = refl; start-is = refl; stop-is = refl; ordered = omega arith; inside = omega arith }
+
+module _ (s : List ℕ) {p : Place} where
+  pub span-nowhere : {r : Span} → r ≡ refusal noSuchLine → p ≡ nowhere → SpanOf s (foundAt p) r
+  span-nowhere refused is = rw (refused, is) (refused-span s noSuchLine)
+
+  pub span-between : (start stop : ℕ) → start ≤ stop → stop ≤ ∣ s ∣ → p ≡ between start stop
+      → SpanOf s (foundAt p) (record { number = accepted; start = start; stop = stop })
+  span-between start stop ordered inside is =
+      rw is (record { number-is = refl; start-is = refl; stop-is = refl; ordered = ordered; inside = inside })
+
+-- "Look-up: 7, then 8"
+module _ (s : List ℕ) (line : ℕ) where
+  abbrev looked : Bool → Found
+  looked t = if t then record { number = sheetTooLong; start = 0; stop = 0 } else foundAt (valueFrom s 0 line)
+
+  pub too-long : {r : Span} → 16000 < ∣ s ∣ → r ≡ refusal sheetTooLong → SpanOf s (onLookUp s line) r
+  unfolding onLookUp
+  too-long h refused =
+      let past = sym (lt-ltb _ _ h) in
+      subst (SpanOf s (onLookUp s line)) (sym refused)
+      (subst (λ (t : Bool). SpanOf s (looked t) (refusal sheetTooLong)) past (refused-span s sheetTooLong))
+
+  pub looked-up : {p : Place} {r : Span} → ∣ s ∣ ≤ 16000 → valueFrom s 0 line ≡ p → SpanOf s (foundAt p) r
+      → SpanOf s (onLookUp s line) r
+  unfolding onLookUp
+  looked-up {p} {r} h is span = subst (λ f. SpanOf s f r) (sym (ap looked (le-ltb _ _ h) ∙ ap foundAt is)) span

@@ -1,0 +1,67 @@
+-- The bytes before i are digits, so all are if those from i on are.
+use mathlib.Core.Path.{_≡_, refl, sym, ap, _∙_}
+use Prim.Native.Nat.{_≤_, _-_}
+use native.Mathlib.Omega.{arith}
+use lib.ListN.{length, drop, drop-of-length-le}
+use borrow.Author.Needs.{needs}
+use Rattle.sheets.specs.Number.{allDigits}
+use Rattle.sheets.proofs.Digits.{digit-here, no-digit-here}
+use Rattle.numbers.proofs.Asked.{holds, fails}
+use Rattle.numbers.proofs.all_digits.Statement.{statement}
+use Rattle.numbers.proofs.all_digits.Tie as tie
+
+abbrev Inv-loop : tie.InvT-loop
+Inv-loop text i₀ i = (i ≤ length text) × (allDigits text ≡ allDigits (drop i text))
+
+abbrev μ-loop : tie.MeasureT-loop
+μ-loop text i₀ i = length text - i
+
+loop-holds : tie.Need-loop-holds Inv-loop μ-loop
+loop-holds c = (omega arith, refl)
+
+shared-slice-read-is-digit : tie.Need-shared-slice-read-is-digit Inv-loop μ-loop
+shared-slice-read-is-digit c = search needs
+
+is-digit-requires : tie.Need-is-digit-requires Inv-loop μ-loop
+is-digit-requires c κs = search needs
+
+returns : tie.Need-returns Inv-loop μ-loop
+returns c =
+    let v = c .before .before .before .before .loop in
+    let s = c .before .before .before .before .before .before .args .text .now in
+    let isnt = fails (c .before .is-digit .ensures) (c .if1 .taken) in
+    sym (v .inv .1 ∙ no-digit-here s (v .i) (omega arith) isnt)
+
+add-i : tie.Need-add-i Inv-loop μ-loop
+add-i c = search needs
+
+loop-less : tie.Need-loop-less Inv-loop μ-loop
+loop-less c = search needs
+
+loop-again : tie.Need-loop-again Inv-loop μ-loop
+loop-again c =
+    let v = c .before .before .before .before .loop in
+    let s = c .before .before .before .before .before .before .args .text .now in
+    let is = holds (c .before .is-digit .ensures) (c .if1 .left) in
+    (omega arith, v .inv .1 ∙ digit-here s (v .i) (omega arith) is)
+
+returns-2 : tie.Need-returns-2 Inv-loop μ-loop
+returns-2 c =
+    let v = c .before .loop in
+    let s = c .before .before .before .args .text .now in
+    sym (v .inv .1 ∙ ap allDigits (drop-of-length-le s {i = v .i} (omega arith)))
+
+pub all-digits-spec : {M : Type 1} → statement M
+all-digits-spec =
+    tie.close
+    (tie.spec
+    Inv-loop
+    μ-loop
+    loop-holds
+    shared-slice-read-is-digit
+    is-digit-requires
+    returns
+    add-i
+    loop-less
+    loop-again
+    returns-2)

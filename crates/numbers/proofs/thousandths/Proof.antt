@@ -1,0 +1,36 @@
+-- Four digits are worth less than 10,000 and three less than 1,000, so the sum is below 10,000,000.
+use native.Mathlib.Omega.{arith}
+use Rattle.sheets.proofs.Digits.{value-below, thousandths-below}
+use borrow.Author.Needs.{needs}
+use Rattle.numbers.proofs.thousandths.Statement.{statement}
+use Rattle.numbers.proofs.thousandths.Tie as tie
+
+value-requires : tie.Need-value-requires
+value-requires c κs = search needs
+
+mul-result : tie.Need-mul-result
+mul-result c =
+    let x = c .before .before .before in
+    omega (arith, c .value .ensures, value-below 4 (x .args .before .now) (x .pre .0 .1) (x .pre .0 .0))
+
+value-requires-2 : tie.Need-value-requires-2
+value-requires-2 c κs = search needs
+
+add-result : tie.Need-add-result
+add-result c =
+    let x = c .before .before .before .before in
+    let below = thousandths-below (x .args .before .now) (x .args .after .now) (x .pre .0) (x .pre .1) in
+    omega (arith, c .before .value .ensures, c .value2 .ensures, below)
+
+cast-result : tie.Need-cast-result
+cast-result c =
+    let x = c .before .before .before .before in
+    let below = thousandths-below (x .args .before .now) (x .args .after .now) (x .pre .0) (x .pre .1) in
+    omega (arith, c .before .value .ensures, c .value2 .ensures, below)
+
+returns : tie.Need-returns
+returns c = search needs
+
+pub thousandths-spec : {M : Type 1} → statement M
+thousandths-spec =
+    tie.close (tie.spec value-requires mul-result value-requires-2 add-result cast-result returns)

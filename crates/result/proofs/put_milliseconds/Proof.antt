@@ -1,0 +1,62 @@
+-- The whole milliseconds are put, and four bytes behind them: the comma and three digits.
+use borrow.Author.Needs.{needs}
+use mathlib.Core.List.{[], _∷_, _++_}
+use Prim.Native.Nat.{_/_, _%_}
+use Rattle.sheets.specs.Number.{comma}
+use Rattle.sheets.specs.Result.{decimal, threeDigits, milliseconds}
+use Rattle.result.proofs.Putting.{both, put-as, room-first, room-then}
+use Rattle.result.proofs.put_milliseconds.Statement.{statement}
+use Rattle.result.proofs.put_milliseconds.Tie as tie
+
+put-number-requires : tie.Need-put-number-requires
+unfolding milliseconds
+put-number-requires c κs =
+    let s = c .before .before in
+    let t = s .args .thousandths in
+    room-first (decimal (t / 1000)) (comma ∷ threeDigits (t % 1000)) (s .pre)
+
+last-digit-requires : tie.Need-last-digit-requires
+last-digit-requires c κs = search needs
+
+last-digit-requires-2 : tie.Need-last-digit-requires-2
+last-digit-requires-2 c κs = search needs
+
+last-digit-requires-3 : tie.Need-last-digit-requires-3
+last-digit-requires-3 c κs = search needs
+
+slice-aggregate-put : tie.Need-slice-aggregate-put
+slice-aggregate-put c = search needs
+
+put-requires : tie.Need-put-requires
+unfolding milliseconds
+put-requires c κs =
+    let p = c .before .before .before .before .before .before .before in
+    record { fits = room-then (p .put-number .ensures) (p .before .before .before .pre) .fits }
+
+same-length : tie.Need-same-length
+same-length c = search needs
+
+returns : tie.Need-returns
+unfolding milliseconds
+returns c =
+    let d = c .before .before .before .before .before in
+    let p = d .before .before .before .before .before in
+    let t = p .before .before .before .args .thousandths in
+    let first = d .before .before .last-digit .ensures in
+    let second = d .before .last-digit2 .ensures in
+    let third = d .last-digit3 .ensures in
+    put-as (λ i. decimal (t / 1000) ++ (comma ∷ first i ∷ second i ∷ third i ∷ []))
+    (both (p .put-number .ensures) (c .before .before .put .ensures))
+
+pub put-milliseconds-spec : {M : Type 1} → statement M
+put-milliseconds-spec =
+    tie.close
+    (tie.spec
+    put-number-requires
+    last-digit-requires
+    last-digit-requires-2
+    last-digit-requires-3
+    slice-aggregate-put
+    put-requires
+    same-length
+    returns)

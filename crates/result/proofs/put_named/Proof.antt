@@ -1,0 +1,26 @@
+-- The name is put, and the number behind it.
+use borrow.Author.Needs.{needs}
+use Rattle.sheets.specs.Result.{decimal}
+use Rattle.result.proofs.Putting.{both, room-first, room-then}
+use Rattle.result.proofs.put_named.Statement.{statement}
+use Rattle.result.proofs.put_named.Tie as tie
+
+put-requires : tie.Need-put-requires
+put-requires c κs =
+    let s = c .before .before .before in
+    room-first (s .args .name .now) (decimal (s .args .n)) (s .pre)
+
+put-number-requires : tie.Need-put-number-requires
+put-number-requires c κs =
+    let p = c .before .before .before in
+    room-then (p .put .ensures) (p .before .before .before .before .pre)
+
+same-length : tie.Need-same-length
+same-length c = search needs
+
+returns : tie.Need-returns
+returns c =
+    both (c .before .before .before .before .before .before .put .ensures) (c .before .before .put-number .ensures)
+
+pub put-named-spec : {M : Type 1} → statement M
+put-named-spec = tie.close (tie.spec put-requires put-number-requires same-length returns)

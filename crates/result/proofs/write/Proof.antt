@@ -1,0 +1,48 @@
+-- The refusals by their tests; the sheet has room, as it is at most 256 bytes long.
+use mathlib.Core.Path.{sym, _∙_}
+use native.Mathlib.Omega.{arith}
+use borrow.Author.Needs.{needs}
+use borrow.Author.Tests.{not-true, not-false}
+use Rattle.sheets.proofs.Lengths.{result-fits}
+use Rattle.result.specs.Promises.{defined}
+use Rattle.result.proofs.Refused.{sheet-policy, sheet-short, sheet-written}
+use Rattle.result.proofs.write.Statement.{statement}
+use Rattle.result.proofs.write.Tie as tie
+
+known-policy-requires : tie.Need-known-policy-requires
+known-policy-requires c κs = search needs
+
+returns : tie.Need-returns
+returns c =
+    let k = c .before .known-policy in
+    let a = c .before .before .before .args in
+    sheet-policy (a .outcome) (a .out .now) (sym (k .ensures) ∙ not-true (k .result) (c .if1 .taken))
+
+returns-2 : tie.Need-returns-2
+returns-2 c =
+    let k = c .before .before .known-policy in
+    let a = c .before .before .before .before .args in
+    let known = sym (k .ensures) ∙ not-false (k .result) (c .before .if1 .left) in
+    sheet-short (a .outcome) (a .out .now) known (c .if2 .taken)
+
+put-sheet-requires : tie.Need-put-sheet-requires
+put-sheet-requires c κs =
+    let s = c .before .before .before .before .before in
+    let most = result-fits (defined (s .args .outcome)) (omega arith) in
+    omega arith
+
+same-length : tie.Need-same-length
+same-length c = search needs
+
+returns-3 : tie.Need-returns-3
+returns-3 c =
+    let e = c .before .before .before .before in
+    let k = e .before .before .known-policy in
+    let a = e .before .before .before .before .args in
+    let known = sym (k .ensures) ∙ not-false (k .result) (e .before .if1 .left) in
+    sheet-written (a .outcome) (a .out .now) known (e .if2 .left) (c .before .before .put-sheet .ensures)
+
+pub write-spec : {M : Type 1} → statement M
+write-spec =
+    tie.close
+    (tie.spec known-policy-requires returns returns-2 put-sheet-requires same-length returns-3)

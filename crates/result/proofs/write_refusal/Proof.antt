@@ -1,0 +1,57 @@
+-- Two lines of at most 19 and 16 bytes, one after the other.
+use borrow.Author.Needs.{needs}
+use native.Mathlib.Omega.{arith}
+use Rattle.sheets.specs.Text.{bytes}
+use Rattle.sheets.specs.Result.{refusedSheet}
+use Rattle.sheets.proofs.Lengths.{count-length}
+use Rattle.result.proofs.Putting.{both}
+use Rattle.result.proofs.Refused.{text-short, text-written}
+use Rattle.result.proofs.write_refusal.Statement.{statement}
+use Rattle.result.proofs.write_refusal.Tie as tie
+
+returns : tie.Need-returns
+returns c =
+    let a = c .before .before .args in
+    text-short (refusedSheet (a .number) (a .line)) (a .out .now) (c .if1 .taken)
+
+slice-aggregate-put-line : tie.Need-slice-aggregate-put-line
+slice-aggregate-put-line c = search needs
+
+put-line-requires : tie.Need-put-line-requires
+put-line-requires c κs =
+    let s = c .before .before .before .before in
+    omega (arith, count-length (bytes "refused=") (s .args .number) (omega arith))
+
+slice-aggregate-put-line-2 : tie.Need-slice-aggregate-put-line-2
+slice-aggregate-put-line-2 c = search needs
+
+put-line-requires-2 : tie.Need-put-line-requires-2
+put-line-requires-2 c κs =
+    let s = c .before .before .before .before .before .before .before .before .before in
+    let first = count-length (bytes "refused=") (s .args .number) (omega arith) in
+    let second = count-length (bytes "line=") (s .args .line) (omega arith) in
+    omega arith
+
+same-length : tie.Need-same-length
+same-length c = search needs
+
+returns-2 : tie.Need-returns-2
+unfolding refusedSheet
+returns-2 c =
+    let first = c .before .before .before .before .before .before .before in
+    let e = first .before .before .before in
+    let a = e .before .before .args in
+    text-written (refusedSheet (a .number) (a .line)) (a .out .now) (e .if1 .left)
+    (both (first .put-line .ensures) (c .before .before .put-line2 .ensures))
+
+pub write-refusal-spec : {M : Type 1} → statement M
+write-refusal-spec =
+    tie.close
+    (tie.spec
+    returns
+    slice-aggregate-put-line
+    put-line-requires
+    slice-aggregate-put-line-2
+    put-line-requires-2
+    same-length
+    returns-2)

@@ -1,0 +1,33 @@
+-- Refusal 6 by its test; the line has room, as it is at most 256 bytes long.
+use borrow.Author.Needs.{needs}
+use native.Mathlib.Omega.{arith}
+use Rattle.result.specs.Ledger.{requestLine}
+use Rattle.result.proofs.Ledger.{request-fits}
+use Rattle.result.proofs.Refused.{text-short, text-written}
+use Rattle.result.proofs.write_request.Statement.{statement}
+use Rattle.result.proofs.write_request.Tie as tie
+
+returns : tie.Need-returns
+returns c =
+    let a = c .before .before .args in
+    text-short (requestLine (a .request) (a .page) (a .kind) (a .evicted) (a .list) (a .moves)) (a .out .now) (c .if1 .taken)
+
+put-request-requires : tie.Need-put-request-requires
+put-request-requires c κs =
+    let a = c .before .before .before .args in
+    let most = request-fits (a .request) (a .page) (a .kind) (a .evicted) (a .list) (a .moves)
+    (omega arith) (omega arith) (omega arith) (omega arith) (omega arith) (omega arith) in
+    omega arith
+
+same-length : tie.Need-same-length
+same-length c = search needs
+
+returns-2 : tie.Need-returns-2
+returns-2 c =
+    let e = c .before .before .before .before in
+    let a = e .before .before .args in
+    text-written (requestLine (a .request) (a .page) (a .kind) (a .evicted) (a .list) (a .moves)) (a .out .now) (e .if1 .left)
+    (c .before .before .put-request .ensures)
+
+pub write-request-spec : {M : Type 1} → statement M
+write-request-spec = tie.close (tie.spec returns put-request-requires same-length returns-2)

@@ -1,0 +1,150 @@
+-- What an accepted bid holds: its policy is known, c, cost and count of pages are in their ranges.
+-- Each part is a fact about the line that gives it: what is read there, if anything is, is in range.
+use mathlib.Core.Path.{subst}
+use mathlib.Core.List.{List, []}
+use Prim.Native.Nat.{ℕ, suc, _+_, _≤_, _<_}
+use native.Mathlib.Omega.{arith}
+use lib.ListN.{drop}
+use lib.Dec.{ltb}
+use borrow.Author.Tests.{ltb-true}
+use Rattle.figures.specs.Choice.{∣_∣, same}
+use Rattle.figures.specs.Sound.{knownSize}
+use Rattle.figures.proofs.Lists.{by-test, either}
+use Rattle.figures.proofs.Encoding.{reads}
+use Rattle.sheets.specs.Text.{bytes, starts}
+use Rattle.sheets.specs.Number.{Value, means, wrong, whole, costForm, missCost}
+use Rattle.sheets.specs.Lines.{Lines, end, unclosed, line, lines, Reading, good, bad, before, under}
+use Rattle.sheets.specs.Bid.{Bid, Meaning, bid, refused, PolicyValue, policyValue, policyMeant, inRange}
+use Rattle.sheets.specs.Bid.{policyLine, sizeLine, costLine, pageLine, Pages, listed, refusedAt, onto, pagesFrom}
+use Rattle.sheets.specs.Bid.{withPages, afterLine, inOrder, meaning}
+use Rattle.sheets.specs.Demands.{InRange, BidsInRange}
+use Rattle.sheets.proofs.Digits.{is-cost, cost-below}
+
+-- WHAT IS READ, IF ANYTHING IS, HAS A PROPERTY
+
+abbrev OfValue : (ℕ → Type 0) → Value → Type 0
+OfValue Q (means n) = Q n
+OfValue Q (wrong number) = Unit {0}
+
+abbrev OfReading : (ℕ → Type 0) → Reading → Type 0
+OfReading Q (good n rest) = Q n
+OfReading Q (bad number) = Unit {0}
+
+abbrev OfPages : (List ℕ → Type 0) → Pages → Type 0
+OfPages Q (listed pages) = Q pages
+OfPages Q (refusedAt number at) = Unit {0}
+
+abbrev OfMeaning : (Bid → Type 0) → Meaning → Type 0
+OfMeaning Q (bid b) = Q b
+OfMeaning Q (refused number at) = Unit {0}
+
+of-before : (Q : ℕ → Type 0) (v : Value) (rest : Lines) → OfValue Q v → OfReading Q (before v rest)
+of-before Q (means n) rest h = h
+of-before Q (wrong number) rest h = tt
+
+of-under : (Q : ℕ → Type 0) (key : List ℕ) (meant : List ℕ → Value) → ((s : List ℕ) → OfValue Q (meant s))
+    → (ls : Lines) → OfReading Q (under key meant ls)
+of-under Q key meant h end = tt
+of-under Q key meant h unclosed = tt
+of-under Q key meant h (line l rest) =
+    let s = drop ∣ key ∣ l in either (OfReading Q) (starts key l) (of-before Q (meant s) rest (h s)) tt
+
+of-after : (P : Bid → Type 0) (Q : ℕ → Type 0) (n : ℕ) (r : Reading) (follows : ℕ → Lines → Meaning) → OfReading Q r
+    → ((value : ℕ) (rest : Lines) → Q value → OfMeaning P (follows value rest)) → OfMeaning P (afterLine n r follows)
+of-after P Q n (good value rest) follows h then = then value rest h
+of-after P Q n (bad number) follows h then = tt
+
+-- THE FIRST THREE LINES
+
+abbrev Known : ℕ → Type 0
+Known policy = (1 ≤ policy) × (policy ≤ 2)
+
+abbrev Names : PolicyValue → Type 0
+Names v = OfValue Known (policyMeant v)
+
+policy-named : (s : List ℕ) → Names (policyValue s)
+policy-named s =
+    either Names (same s (bytes "")) (omega arith)
+    (either Names (same s (bytes "car")) (omega arith)
+    (either Names (same s (bytes "cart")) (omega arith) tt))
+
+policy-known : (ls : Lines) → OfReading Known (policyLine ls)
+unfolding policyLine
+policy-known ls = of-under Known (bytes "policy=") (λ s. policyMeant (policyValue s)) policy-named ls
+
+abbrev Size : ℕ → Type 0
+Size c = (1 ≤ c) × (c ≤ 1024)
+
+size-known : (ls : Lines) → OfReading Size (sizeLine ls)
+unfolding sizeLine
+size-known ls = of-under Size (bytes "pages=") (λ s. inRange (whole s)) (λ s. go (whole s)) ls
+  where
+    go : (v : Value) → OfValue Size (inRange v)
+    go (means c) = by-test (OfValue Size) (knownSize c) (λ h. simp reads at h) (λ h. tt)
+    go (wrong number) = tt
+
+abbrev Cost : ℕ → Type 0
+Cost cost = cost ≤ 9999999
+
+cost-at-most : (ls : Lines) → OfReading Cost (costLine ls)
+unfolding costLine missCost
+cost-at-most ls = of-under Cost (bytes "misscost=") missCost small ls
+  where
+    small : (s : List ℕ) → OfValue Cost (missCost s)
+    small s = by-test (OfValue Cost) (costForm s) (λ h. omega (arith, cost-below s (is-cost s h))) (λ h. tt)
+
+-- THE PAGE LINES
+
+page-allowed : (n : ℕ) (ls : Lines) → OfReading (λ page. n < 1000) (pageLine n ls)
+unfolding pageLine
+page-allowed n ls = of-under (λ page. n < 1000) (bytes "page=") _ (λ s.
+    by-test (OfValue (λ page. n < 1000)) (ltb n 1000) (λ h. any (ltb-true n 1000 h) (whole s)) (λ h. tt)) ls
+  where
+    any : n < 1000 → (v : Value) → OfValue (λ page. n < 1000) v
+    any h (means page) = h
+    any h (wrong number) = tt
+
+abbrev Room : ℕ → List ℕ → Type 0
+Room n pages = n + ∣ pages ∣ ≤ 1000
+
+of-onto : (n : ℕ) (r : Reading) (after : Pages) → OfReading (λ page. n < 1000) r
+    → (n < 1000 → OfPages (Room (suc n)) after) → OfPages (Room n) (onto n r after)
+of-onto n (good page rest) (listed pages) h room = let i = room h in omega arith
+of-onto n (good page rest) (refusedAt number at) h room = tt
+of-onto n (bad number) (listed pages) h room = tt
+of-onto n (bad number) (refusedAt later at) h room = tt
+
+pages-at-most : (n : ℕ) (ls : Lines) → n ≤ 1000 → OfPages (Room n) (pagesFrom n ls)
+pages-at-most n end h = omega arith
+pages-at-most n unclosed h =
+    of-onto n (pageLine n unclosed) (listed []) (page-allowed n unclosed) (λ below. omega arith)
+pages-at-most n (line l rest) h =
+    of-onto n (pageLine n (line l rest)) (pagesFrom (suc n) rest) (page-allowed n (line l rest)) (λ below.
+    pages-at-most (suc n) rest below)
+
+-- THE SHEET
+
+module _ (policy c cost : ℕ) (p : Known policy) (q : Size c) (r : Cost cost) where
+  of-pages : (ps : Pages) → OfPages (Room 0) ps → OfMeaning InRange (withPages policy c cost ps)
+  of-pages (listed pages) h = record {
+    policy-known = p;
+    size-known = q;
+    cost-at-most = r;
+    pages-at-most = omega arith;
+  }
+  of-pages (refusedAt number at) h = tt
+
+lines-in-range : (ls : Lines) → OfMeaning InRange (inOrder ls)
+unfolding inOrder
+lines-in-range ls =
+    of-after InRange Known 1 (policyLine ls) _ (policy-known ls) (λ policy ls₂ p.
+    of-after InRange Size 2 (sizeLine ls₂) _ (size-known ls₂) (λ c ls₃ q.
+    of-after InRange Cost 3 (costLine ls₃) _ (cost-at-most ls₃) (λ cost ls₄ r.
+    of-pages policy c cost p q r (pagesFrom 0 ls₄) (pages-at-most 0 ls₄ (omega arith)))))
+
+in-range : (s : List ℕ) → OfMeaning InRange (meaning s)
+unfolding meaning
+in-range s = either (OfMeaning InRange) (ltb 16000 ∣ s ∣) tt (lines-in-range (lines s))
+
+pub bids-in-range : BidsInRange
+bids-in-range s b is = subst (OfMeaning InRange) is (in-range s)

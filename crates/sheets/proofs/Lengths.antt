@@ -1,0 +1,64 @@
+-- How long a sheet is: line by line, and at most 256 bytes.
+-- Assumes nothing.
+use mathlib.Core.Path.{_≡_}
+use mathlib.Core.List.{List}
+use Prim.Native.Nat.{ℕ, _+_, _/_, _^_, _≤_, _<_}
+use native.Mathlib.Omega.{arith}
+use lib.ListN.{length-append}
+use lib.Dec.{eqb}
+use Rattle.figures.specs.Choice.{∣_∣}
+use Rattle.figures.specs.Sound.{car}
+use Rattle.figures.proofs.Lists.{either}
+use Rattle.sheets.specs.Text.{bytes}
+use Rattle.sheets.specs.Result.{Outcome, decimal, milliseconds, policyName, lineOf, resultSheet}
+use Rattle.sheets.specs.Demands.{ResultFits}
+use Rattle.sheets.proofs.Numbers.{digits-of}
+
+-- The sheet's length, line by line.
+pub result-length : (r : Outcome)
+    → ∣ resultSheet r ∣ ≡
+    ∣ lineOf (bytes "policy=") (policyName (r .policy)) ∣
+    + (∣ lineOf (bytes "pages=") (decimal (r .pages)) ∣
+    + (∣ lineOf (bytes "requests=") (decimal (r .requests)) ∣
+    + (∣ lineOf (bytes "hits=") (decimal (r .hits)) ∣
+    + (∣ lineOf (bytes "misses=") (decimal (r .misses)) ∣
+    + (∣ lineOf (bytes "evictions=") (decimal (r .evictions)) ∣
+    + (∣ lineOf (bytes "steps=") (decimal (r .steps)) ∣
+    + ∣ lineOf (bytes "wait=") (milliseconds (r .wait)) ∣))))))
+unfolding resultSheet
+result-length r = simp length-append
+
+-- A line's length, and those of its values.
+line-length : (key value : List ℕ) → ∣ lineOf key value ∣ ≡ ∣ key ∣ + ∣ value ∣ + 1
+line-length key value = simp length-append (omega arith)
+
+pub decimal-length : (n : ℕ) → n < 2 ^ 32 → ∣ decimal n ∣ ≤ 10
+decimal-length n h = digits-of n (omega arith) .few 9 (omega arith)
+
+pub count-length : (key : List ℕ) (n : ℕ) → n < 2 ^ 32 → ∣ lineOf key (decimal n) ∣ ≤ ∣ key ∣ + 11
+count-length key n h = omega (arith, line-length key (decimal n), decimal-length n h)
+
+name-length : (policy : ℕ) → ∣ policyName policy ∣ ≤ 4
+name-length policy = either (λ name. ∣ name ∣ ≤ 4) (eqb policy car) (omega arith) (omega arith)
+
+milliseconds-length : (wait : ℕ) → wait < 2 ^ 64 → ∣ milliseconds wait ∣ ≤ 21
+unfolding milliseconds
+milliseconds-length wait h =
+    let whole = wait / 1000 in
+    simp length-append (omega (arith, digits-of whole (omega arith) .few 16 (omega arith)))
+
+pub result-fits : ResultFits
+result-fits r h = omega (
+  arith,
+  result-length r,
+  line-length (bytes "policy=") (policyName (r .policy)),
+  name-length (r .policy),
+  count-length (bytes "pages=") (r .pages) (h .pages-fit),
+  count-length (bytes "requests=") (r .requests) (h .requests-fit),
+  count-length (bytes "hits=") (r .hits) (h .hits-fit),
+  count-length (bytes "misses=") (r .misses) (h .misses-fit),
+  count-length (bytes "evictions=") (r .evictions) (h .evictions-fit),
+  count-length (bytes "steps=") (r .steps) (h .steps-fit),
+  line-length (bytes "wait=") (milliseconds (r .wait)),
+  milliseconds-length (r .wait) (h .wait-fits),
+)

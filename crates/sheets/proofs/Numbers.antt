@@ -1,0 +1,185 @@
+-- The digits of a number: what they are worth, how many they are, and that the reader's definitions take them.
+-- Assumes nothing.
+use mathlib.Core.Path.{_≡_, refl, sym, ap, _∙_}
+use mathlib.Core.Bool.{Bool, true, false, false≢true}
+use mathlib.Core.Logic.{_≢_}
+use mathlib.Core.List.{List, [], _∷_, _++_}
+use Prim.Native.Nat.{ℕ, zero, suc, _+_, _-_, _*_, _/_, _%_, _^_, _≤_, _<_}
+use native.Mathlib.Omega.{arith}
+use lib.ListN.{getD, length-append, List·getD-append}
+use lib.Seq.{take-append-seam, drop-append-add}
+use lib.Dec.{leb, ltb, eqb}
+use borrow.Author.Tests.{ltb-true, ltb-false, lt-ltb, le-ltb, le-leb, ne-eqb, eqb-false}
+use Rattle.figures.specs.Choice.{if_then_else_, ∣_∣}
+use Rattle.figures.proofs.Lists.{by-test}
+use Rattle.sheets.specs.Text.{placeOf}
+use Rattle.sheets.specs.Number.{zeroDigit, comma, isDigit, allDigits, value, valueAfter, noLeadingZero, digitsForm, whole}
+use Rattle.sheets.specs.Number.{means, beforeComma, afterComma, missCost}
+use Rattle.sheets.specs.Result.{lastDigit, inDigits, decimal, threeDigits, milliseconds}
+use Rattle.sheets.specs.Demands.{WholeReadBack, WaitsReadBack, CostReadBack}
+
+-- DIGIT BY DIGIT
+
+-- What one digit has, and digits with one more behind them, all digits have.
+pub by-digits : (P : ℕ → List ℕ → Type 0)
+    → ((n : ℕ) → n < 10 → P n (lastDigit n ∷ []))
+    → ((n : ℕ) (s : List ℕ) → 10 ≤ n → P (n / 10) s → P n (s ++ (lastDigit n ∷ [])))
+    → (k n : ℕ) → n < 10 ^ suc k → P n (inDigits (suc k) n)
+by-digits P one more zero n h =
+    by-test (P n) (ltb n 10) (λ t. one n (ltb-true n 10 t)) (λ t. absurd (omega (arith, ltb-false n 10 t)))
+by-digits P one more (suc k) n h =
+    let front = by-digits P one more k (n / 10) (omega arith) in
+    by-test (P n) (ltb n 10) (λ t. one n (ltb-true n 10 t)) (λ t. more n _ (ltb-false n 10 t) front)
+
+-- Room for more digits changes nothing.
+one-digit : (k n : ℕ) → n < 10 → inDigits (suc k) n ≡ lastDigit n ∷ []
+one-digit k n h =
+    ap (λ (b : Bool). if b then lastDigit n ∷ [] else inDigits k (n / 10) ++ (lastDigit n ∷ [])) (lt-ltb n 10 h)
+
+more-digits : (k n : ℕ) → 10 ≤ n → inDigits (suc k) n ≡ inDigits k (n / 10) ++ (lastDigit n ∷ [])
+more-digits k n h =
+    ap (λ (b : Bool). if b then lastDigit n ∷ [] else inDigits k (n / 10) ++ (lastDigit n ∷ [])) (le-ltb n 10 h)
+
+more-room : (k n : ℕ) → n < 10 ^ suc k → inDigits (suc (suc k)) n ≡ inDigits (suc k) n
+more-room zero n h = one-digit 1 n h ∙ sym (one-digit 0 n h)
+more-room (suc k) n h =
+    ap (λ (s : List ℕ). if ltb n 10 then lastDigit n ∷ [] else s ++ (lastDigit n ∷ [])) (more-room k (n / 10) (omega arith))
+
+-- A number's decimal digits by its last one.
+pub decimal-one : (n : ℕ) → n < 10 → decimal n ≡ lastDigit n ∷ []
+unfolding decimal
+decimal-one n h = one-digit 19 n h
+
+pub decimal-more : (n : ℕ) → 10 ≤ n → n < 2 ^ 64 → decimal n ≡ decimal (n / 10) ++ (lastDigit n ∷ [])
+unfolding decimal
+decimal-more n h most =
+    more-digits 19 n h ∙ ap (λ (s : List ℕ). s ++ (lastDigit n ∷ [])) (sym (more-room 18 (n / 10) (omega arith)))
+
+-- WHAT THE DIGITS ARE
+
+-- A digit behind others, and others behind digits.
+value-behind : (n : ℕ) (s : List ℕ) (d : ℕ) → valueAfter n (s ++ (d ∷ [])) ≡ 10 * valueAfter n s + (d - zeroDigit)
+value-behind n [] d = refl
+value-behind n (b ∷ s) d = value-behind (10 * n + (b - zeroDigit)) s d
+
+last-is-digit : (n : ℕ) → isDigit (lastDigit n) ≡ true
+last-is-digit n =
+    let b = lastDigit n in
+    ap (λ (t : Bool). if t then leb b 57 else false) (le-leb 48 b (omega arith)) ∙ le-leb b 57 (omega arith)
+
+pub all-behind : (s t : List ℕ) → allDigits s ≡ true → allDigits t ≡ true → allDigits (s ++ t) ≡ true
+all-behind [] t h k = k
+all-behind (b ∷ s) t h k = go (isDigit b) h (λ all. all-behind s t all k)
+  where
+    go : (test : Bool) → (if test then allDigits s else false) ≡ true → (allDigits s ≡ true → allDigits (s ++ t) ≡ true)
+        → (if test then allDigits (s ++ t) else false) ≡ true
+    go true h i = i h
+    go false h i = h
+
+last-alone : (n : ℕ) → allDigits (lastDigit n ∷ []) ≡ true
+last-alone n = ap (λ (t : Bool). if t then true else false) (last-is-digit n)
+
+pub record Digits (n : ℕ) (s : List ℕ) : Type 0 where
+  pub worth : value s ≡ n
+  pub all-digits : allDigits s ≡ true
+  pub some : 1 ≤ ∣ s ∣
+  pub few : (k : ℕ) → n < 10 ^ suc k → ∣ s ∣ ≤ suc k
+  -- 0 itself is one digit, and others do not start with 0
+  pub single : n < 10 → ∣ s ∣ ≡ 1
+  pub first : 1 ≤ n → eqb (getD s 0 0) zeroDigit ≡ false
+
+one-has : (n : ℕ) → n < 10 → Digits n (lastDigit n ∷ [])
+one-has n h = record {
+  worth = omega arith;
+  all-digits = last-alone n;
+  some = omega arith;
+  few = λ k most. omega arith;
+  single = λ below. refl;
+  first = λ above. ne-eqb (lastDigit n) zeroDigit (omega arith);
+}
+
+more-has : (n : ℕ) (s : List ℕ) → 10 ≤ n → Digits (n / 10) s → Digits n (s ++ (lastDigit n ∷ []))
+more-has n s h front = record {
+  worth = omega (arith, value-behind 0 s (lastDigit n));
+  all-digits = all-behind s (lastDigit n ∷ []) (front .all-digits) (last-alone n);
+  some = omega (arith, length-append s (lastDigit n ∷ []));
+  few = few;
+  single = λ below. absurd (omega arith);
+  first = λ above.
+      ap (λ (b : ℕ). eqb b zeroDigit) (List·getD-append s (lastDigit n ∷ []) 0 0 (front .some)) ∙ front .first (omega arith);
+}
+  where
+    few : (k : ℕ) → n < 10 ^ suc k → ∣ s ++ (lastDigit n ∷ []) ∣ ≤ suc k
+    few zero most = absurd (omega arith)
+    few (suc k) most = omega (arith, length-append s (lastDigit n ∷ []), front .few k (omega arith))
+
+pub digits-of : (n : ℕ) → n < 2 ^ 64 → Digits n (decimal n)
+unfolding decimal
+digits-of n h = by-digits Digits one-has more-has 19 n (omega arith)
+
+-- READ BACK
+
+-- Digits are in the form of a number that has room for as many.
+no-leading-zero : (n : ℕ) (s : List ℕ) → Digits n s → noLeadingZero s ≡ true
+no-leading-zero n s d =
+    by-test (λ (b : Bool). b ≡ true) (eqb ∣ s ∣ 1) (λ is. refl) (λ not.
+    let above : n ≢ 0 = λ none. eqb-false ∣ s ∣ 1 not (d .single (omega arith)) in
+    rw (d .first (omega arith)))
+
+pub in-form : (k n : ℕ) (s : List ℕ) → Digits n s → n < 10 ^ suc k → digitsForm (suc k) s ≡ true
+unfolding digitsForm
+in-form k n s d most =
+    rw (le-leb 1 ∣ s ∣ (d .some), le-leb ∣ s ∣ (suc k) (d .few k most), d .all-digits, no-leading-zero n s d)
+
+pub whole-back : WholeReadBack
+unfolding whole
+whole-back n h =
+    let d = digits-of n (omega arith) in
+    rw (in-form 9 n (decimal n) d (omega arith), d .worth, le-leb n 4294967295 (omega arith))
+
+-- The comma behind digits is the first one.
+comma-place : (s t : List ℕ) → allDigits s ≡ true → placeOf comma (s ++ (comma ∷ t)) ≡ ∣ s ∣
+comma-place [] t all = refl
+comma-place (b ∷ s) t all = go (isDigit b) refl all (comma-place s t)
+  where
+    go : (test : Bool) → isDigit b ≡ test → (if test then allDigits s else false) ≡ true
+        → (allDigits s ≡ true → placeOf comma (s ++ (comma ∷ t)) ≡ ∣ s ∣) → placeOf comma (b ∷ (s ++ (comma ∷ t))) ≡ suc ∣ s ∣
+    go true is all rest =
+        let other = ne-eqb b comma (λ same. false≢true (sym (ap isDigit same) ∙ is)) in
+        rw other (ap suc (rest all))
+    go false is all rest = absurd (false≢true all)
+
+-- Three digits are worth their number.
+three-worth : (n : ℕ) → n < 1000 → value (threeDigits n) ≡ n
+three-worth n h = omega arith
+
+three-digits : (n : ℕ) → allDigits (threeDigits n) ≡ true
+three-digits n = rw (last-is-digit (n / 100), last-is-digit (n / 10), last-is-digit n)
+
+-- The wait's two parts.
+module _ (wait : ℕ) (h : wait < 2 ^ 64) where
+  place : placeOf comma (milliseconds wait) ≡ ∣ decimal (wait / 1000) ∣
+  unfolding milliseconds
+  place = comma-place (decimal (wait / 1000)) (threeDigits (wait % 1000)) (digits-of (wait / 1000) (omega arith) .all-digits)
+
+  pub before-is : beforeComma (milliseconds wait) ≡ decimal (wait / 1000)
+  unfolding milliseconds
+  before-is = rw place (take-append-seam (decimal (wait / 1000)) (comma ∷ threeDigits (wait % 1000)))
+
+  pub after-is : afterComma (milliseconds wait) ≡ threeDigits (wait % 1000)
+  unfolding milliseconds
+  after-is = rw place (drop-append-add (decimal (wait / 1000)) (comma ∷ threeDigits (wait % 1000)) 1)
+
+pub wait-back : WaitsReadBack
+wait-back wait h = record {
+  milliseconds-back = rw (before-is wait h) (digits-of (wait / 1000) (omega arith) .worth);
+  thousandths-back = rw (after-is wait h) (three-worth (wait % 1000) (omega arith));
+}
+
+pub cost-back : CostReadBack
+unfolding missCost
+cost-back cost h =
+    let d = digits-of (cost / 1000) (omega arith) in
+    let form = in-form 3 (cost / 1000) (decimal (cost / 1000)) d (omega arith) in
+    rw (before-is cost (omega arith), after-is cost (omega arith), form, three-digits (cost % 1000), d .worth)
+    (ap means (omega (arith, three-worth (cost % 1000) (omega arith))))

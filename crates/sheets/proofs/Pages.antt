@@ -1,0 +1,81 @@
+-- The page lines, one after the other: what the reading of the first says of them all.
+-- Assumes nothing.
+use mathlib.Core.Path.{_≡_, refl, ap, _∙_}
+use mathlib.Core.Bool.{Bool, true, false, true≢false, false≢true}
+use mathlib.Core.List.{List, []}
+use Prim.Native.Nat.{ℕ, suc, _<_}
+use lib.ListN.{drop}
+use lib.Dec.{ltb}
+use borrow.Author.Tests.{ltb-true}
+use Rattle.figures.specs.Choice.{if_then_else_, ∣_∣}
+use Rattle.figures.specs.Refusals.{tooManyPages, noSuchLine}
+use Rattle.sheets.specs.Text.{bytes, starts}
+use Rattle.sheets.specs.Number.{Value, means, wrong, whole}
+use Rattle.sheets.specs.Lines.{Lines, end, unclosed, line, Reading, good, bad, before}
+use Rattle.sheets.specs.Bid.{Pages, listed, refusedAt, numberOfLine, onto, pageMeant, pageLine, pagesFrom}
+
+-- A good reading is no refusal, and has one value and one rest; so is a value that means a number.
+abbrev pub isGood : Reading → Bool
+isGood (good v rest) = true
+isGood (bad k) = false
+
+abbrev pub valueRead : Reading → ℕ
+valueRead (good v rest) = v
+valueRead (bad k) = 0
+
+abbrev pub restOf : Reading → Lines
+restOf (good v rest) = rest
+restOf (bad k) = end
+
+abbrev pub isMeant : Value → Bool
+isMeant (means v) = true
+isMeant (wrong k) = false
+
+abbrev pub isEnd : Lines → Bool
+isEnd end = true
+isEnd unclosed = false
+isEnd (line l rest) = false
+
+pub record Good (v : Value) (after : Lines) (n : ℕ) (rest : Lines) : Type 0 where
+  pub meant : v ≡ means n
+  pub same-rest : after ≡ rest
+
+-- A line under its key is good only by its value.
+pub good-value : (t : Bool) (v : Value) (after : Lines) (n : ℕ) (rest : Lines)
+    → (if t then before v after else bad noSuchLine) ≡ good n rest → Good v after n rest
+good-value true (means x) after n rest e = record { meant = ap means (ap valueRead e); same-rest = ap restOf e }
+good-value true (wrong k) after n rest e = absurd (false≢true (ap isGood e))
+good-value false v after n rest e = absurd (false≢true (ap isGood e))
+
+pub record Next (n : ℕ) (ls : Lines) (page : ℕ) (rest : Lines) : Type 0 where
+  pub one-of-thousand : n < 1000
+  pub goes-on : pagesFrom n ls ≡ onto n (good page rest) (pagesFrom (suc n) rest)
+
+module _ (n page : ℕ) (rest : Lines) where
+  -- "5 if it is the 1,001st page line"
+  few : (s : List ℕ) → pageMeant n s ≡ means page → n < 1000
+  few s e = go (ltb n 1000) refl e
+    where
+      go : (t : Bool) → ltb n 1000 ≡ t → (if t then whole s else wrong tooManyPages) ≡ means page → n < 1000
+      go true h e = ltb-true n 1000 h
+      go false h e = absurd (false≢true (ap isMeant e))
+
+  pub next-page : (ls : Lines) → pageLine n ls ≡ good page rest → Next n ls page rest
+  unfolding pageLine
+  next-page end e = absurd (false≢true (ap isGood e))
+  next-page unclosed e = absurd (false≢true (ap isGood e))
+  next-page (line l after) e =
+      let s = drop ∣ bytes "page=" ∣ l in
+      let g = good-value (starts (bytes "page=") l) (pageMeant n s) after page rest e in
+      record {
+        one-of-thousand = few s (g .meant);
+        goes-on =
+            ap (λ r. onto n r (pagesFrom (suc n) after)) e
+            ∙ ap (λ ls. onto n (good page rest) (pagesFrom (suc n) ls)) (g .same-rest);
+      }
+
+pub wrong-page : (n k : ℕ) (ls : Lines) → isEnd ls ≡ false → pageLine n ls ≡ bad k
+    → pagesFrom n ls ≡ refusedAt k (numberOfLine n)
+wrong-page n k end h e = absurd (true≢false h)
+wrong-page n k unclosed h e = ap (λ r. onto n r (listed [])) e
+wrong-page n k (line l after) h e = ap (λ r. onto n r (pagesFrom (suc n) after)) e
