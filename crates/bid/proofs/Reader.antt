@@ -127,7 +127,7 @@ answers-bid {policy} {c} {cost} is counted filled =
 -- THE REFUSALS BEFORE THE LINES
 
 module _ (s w : List ℕ) where
-  read-by-meaning : 1000 ≤ ∣ w ∣ → onRead s w ≡ answer (meaning s) w
+  pub read-by-meaning : 1000 ≤ ∣ w ∣ → onRead s w ≡ answer (meaning s) w
   unfolding onRead
   read-by-meaning room = ap (λ (b : Bool). if b then answer (refused bufferTooShort 0) w else answer (meaning s) w) (le-ltb _ _ room)
 

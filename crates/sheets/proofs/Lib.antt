@@ -7,3 +7,4 @@ pub mod Lines
 pub mod Bids
 pub mod Numbers
 pub mod Lengths
+pub mod Refused

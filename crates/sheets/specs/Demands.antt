@@ -5,7 +5,7 @@ use mathlib.Core.List.{List}
 use Prim.Native.Nat.{ℕ, _+_, _*_, _^_, _/_, _%_, _≤_, _<_}
 use Rattle.figures.specs.Choice.{∣_∣}
 use Rattle.sheets.specs.Number.{means, value, whole, beforeComma, afterComma, missCost}
-use Rattle.sheets.specs.Bid.{Bid, bid, meaning}
+use Rattle.sheets.specs.Bid.{Bid, bid, refused, meaning}
 use Rattle.sheets.specs.Result.{Outcome, decimal, milliseconds, resultSheet}
 
 -- "every number that the writer writes is read back by the number's definition as that number"
@@ -48,3 +48,7 @@ pub record InRange (b : Bid) : Type 0 where
 
 abbrev pub BidsInRange : Type 0
 BidsInRange = (s : List ℕ) (b : Bid) → meaning s ≡ bid b → InRange b
+
+-- "An accepted call gives number 0": no refusal does. [Refused]
+abbrev pub RefusalsHaveNumbers : Type 0
+RefusalsHaveNumbers = (s : List ℕ) (number line : ℕ) → meaning s ≡ refused number line → 1 ≤ number

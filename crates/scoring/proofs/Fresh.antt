@@ -1,0 +1,66 @@
+-- A run from a fresh directory is accepted, whatever its trace, where all that is lent has room.
+-- Assumes nothing.
+use mathlib.Core.Path.{_≡_, refl, sym, ap, _∙_}
+use mathlib.Core.Bool.{Bool, true, false, _||_}
+use mathlib.Core.List.{List}
+use Prim.Native.Nat.{ℕ, _+_, _*_, _≤_}
+use native.Mathlib.Omega.{arith}
+use lib.Dec.{eqb}
+use borrow.Author.Tests.{le-leb, le-ltb, eq-eqb, eqb-false}
+use Rattle.figures.specs.Choice.{∣_∣}
+use Rattle.figures.specs.Directory.{Directory, fresh}
+use Rattle.figures.specs.Words.{encode, decode}
+use Rattle.figures.specs.Sound.{car, cart, knownPolicy, knownSize}
+use Rattle.figures.specs.Refusals as Refusals
+use Rattle.figures.specs.Refusals.{freshNumber, checkNumber, runNumber, onFresh, onCheck, onRun, servedRun}
+use Rattle.figures.specs.Run.{run}
+use Rattle.figures.proofs.Encoding.{decode-encode, words-fit}
+use Rattle.figures.proofs.Kept.{fresh-is-sound}
+use Rattle.directory.specs.declared.Ran.{Ran}
+use Rattle.directory.specs.Promises.{Freshened, Replayed}
+use Rattle.directory.proofs.Refused.{check-sound}
+use Rattle.scoring.specs.Promises.{Fitting, RanFresh}
+
+pub known-policy : (policy : ℕ) → 1 ≤ policy → policy ≤ 2 → knownPolicy policy ≡ true
+known-policy policy least most = by-car (eqb policy car) refl
+  where
+    by-car : (b : Bool) → eqb policy car ≡ b → b || eqb policy cart ≡ true
+    by-car true is = refl
+    by-car false isnt = let h = eqb-false policy car isnt in eq-eqb policy cart (omega (arith, h))
+
+known-size : (c : ℕ) → 1 ≤ c → c ≤ 1024 → knownSize c ≡ true
+known-size c least most = rw (le-leb 1 c least, le-leb c 1024 most) refl
+
+module _ {policy c : ℕ} {w trace answers : List ℕ} (h : Fitting policy c w trace answers) where
+  abbrev d : Directory
+  d = fresh policy c
+
+  policy-known : knownPolicy policy ≡ true
+  policy-known = known-policy policy (h .policy-known .0) (h .policy-known .1)
+
+  size-known : knownSize c ≡ true
+  size-known = known-size c (h .size-known .0) (h .size-known .1)
+
+  pub fresh-accepted : onFresh policy c w .words ≡ encode (fresh policy c)
+  unfolding onFresh freshNumber
+  fresh-accepted = rw (policy-known, size-known, eq-eqb ∣ w ∣ (8 + 4 * c) (h .exact)) refl
+
+  sound-words : checkNumber (encode d) ≡ 0
+  unfolding onCheck
+  sound-words =
+      let exact = words-fit d (omega arith) in
+      sym (check-sound (encode d) (omega (arith, exact)) policy-known size-known exact (fresh-is-sound policy c policy-known size-known) .number-is)
+
+  pub run-accepted : onRun (encode (fresh policy c)) trace answers ≡ servedRun (run trace (fresh policy c)) answers
+  unfolding onRun runNumber
+  run-accepted = rw (sound-words, le-ltb 1000 ∣ trace ∣ (h .few), le-ltb ∣ answers ∣ (4 * ∣ trace ∣) (h .room), decode-encode) refl
+
+  pub ran-fresh : {number : ℕ} {w′ w″ answers′ : List ℕ} {r : Ran} → Freshened policy c w number w′
+      → Replayed w′ trace answers r w″ answers′ → RanFresh policy c trace answers (r .tally) answers′
+  ran-fresh {r = r} made run-through =
+      let words = made .words-are ∙ fresh-accepted in
+      let served = ap (λ v. onRun v trace answers) words ∙ run-accepted in
+      record {
+        tally-is = run-through .tally-is ∙ ap (λ (x : Refusals.Replayed). x .tally) served;
+        answers-are = run-through .answers-are ∙ ap (λ (x : Refusals.Replayed). x .answers) served;
+      }

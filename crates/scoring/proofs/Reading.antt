@@ -1,0 +1,48 @@
+-- What the reader's answer says of the sheet: a refusal by its number, or the bid that the answer and the buffer hold.
+-- Assumes nothing.
+use mathlib.Core.Path.{_≡_, refl, sym, ap, subst, _∙_}
+use mathlib.Core.List.{List}
+use Prim.Native.Nat.{ℕ, _≤_}
+use native.Mathlib.Omega.{arith}
+use lib.ListN.{take}
+use lib.Seq.{take-at}
+use Rattle.figures.specs.Choice.{∣_∣}
+use Rattle.sheets.specs.Bid as Sheet
+use Rattle.sheets.specs.Bid.{Meaning, bid, refused, meaning}
+use Rattle.sheets.specs.Refusals.{answer, over}
+use Rattle.sheets.proofs.Refused.{refusal-has-number}
+use Rattle.bid.specs.declared.Bid.{Bid}
+use Rattle.bid.specs.Promises.{Answers, BidRead}
+use Rattle.bid.proofs.Reader.{read-by-meaning}
+use Rattle.scoring.specs.Promises.{meant}
+
+-- The bid is the answer's, with as many pages in front of the buffer as it counts.
+pub record Accepted (m : Meaning) (r : Bid) (w′ : List ℕ) : Type 0 where
+  pub means-bid : m ≡ bid (meant r w′)
+  pub as-many : ∣ take (r .count) w′ ∣ ≡ r .count
+
+module _ (s w : List ℕ) (room : 1000 ≤ ∣ w ∣) (r : Bid) (w′ : List ℕ) (h : BidRead s w r w′) where
+  by-meaning : Answers (answer (meaning s) w) r w′
+  by-meaning = subst (λ a. Answers a r w′) (read-by-meaning s w room) h
+
+  refused-as : (m : Meaning) → Answers (answer m w) r w′ → (r .number ≡ 0 → ⊥) → m ≡ refused (r .number) (r .line)
+  refused-as (bid b) a some = absurd (some (a .number-is))
+  refused-as (refused number line) a some = rw (a .number-is, a .line-is) refl
+
+  pub sheet-refused : (r .number ≡ 0 → ⊥) → meaning s ≡ refused (r .number) (r .line)
+  sheet-refused some = refused-as (meaning s) by-meaning some
+
+  accepted-as : (m : Meaning) → Answers (answer m w) r w′ → ((number line : ℕ) → m ≡ refused number line → 1 ≤ number)
+      → r .number ≡ 0 → Accepted m r w′
+  accepted-as (bid b) a numbered none =
+      let pages : take (r .count) w′ ≡ b .pages
+      = ap (take (r .count)) (a .words-are) ∙ take-at (b .pages) _ (r .count) (sym (a .count-is)) in
+      record {
+        means-bid = rw (a .policy-is, a .c-is, a .cost-is, pages) refl;
+        as-many = ap ∣_∣ pages ∙ sym (a .count-is);
+      }
+  accepted-as (refused number line) a numbered none =
+      let least = numbered number line refl in absurd (omega (arith, a .number-is))
+
+  pub sheet-accepted : r .number ≡ 0 → Accepted (meaning s) r w′
+  sheet-accepted none = accepted-as (meaning s) by-meaning (refusal-has-number s) none

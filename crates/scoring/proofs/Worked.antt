@@ -1,0 +1,16 @@
+-- The run that document 01 gives to reproduce, by computation.
+-- Assumes nothing.
+use mathlib.Core.Path.{refl}
+use Rattle.figures.specs.Directory.{placeNew}
+use Rattle.figures.specs.Hand.{repeat}
+use Rattle.figures.specs.Car as Car
+use Rattle.figures.specs.Request.{missed, serve}
+use Rattle.figures.specs.Run.{runFrom}
+use Rattle.sheets.specs.Number.{digitsForm, whole, missCost}
+use Rattle.sheets.specs.Bid.{policyLine, sizeLine, costLine, pageLine, inOrder, meaning}
+use Rattle.sheets.specs.Result.{decimal, milliseconds, resultSheet}
+use Rattle.scoring.specs.Scored.{printed, scored, RunToReproduce}
+
+pub run-to-reproduce : RunToReproduce
+unfolding placeNew runFrom serve missed repeat Car.evict Car.trim Car.placeB1 Car.placeB2 digitsForm whole missCost policyLine sizeLine costLine pageLine inOrder meaning decimal milliseconds resultSheet printed scored
+run-to-reproduce = refl

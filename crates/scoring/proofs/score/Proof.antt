@@ -1,0 +1,100 @@
+-- The reader's answer decides: a refusal written, or the bid scored.
+use native.Mathlib.Omega.{arith}
+use borrow.Author.Needs.{needs}
+use Rattle.scoring.proofs.Scoring.{refusal-scored, good-bid, sheet-scored}
+use Rattle.scoring.proofs.score.Statement.{statement}
+use Rattle.scoring.proofs.score.Tie as tie
+use Rattle.scoring.proofs.score.Reads as reads
+use Rattle.scoring.proofs.score.Lts as lts
+use Rattle.bid.proofs.read.Reads as read-reads
+use Rattle.result.proofs.write_refusal.Reads as write-refusal-reads
+use Rattle.scoring.proofs.score_bid.Reads as score-bid-reads
+
+read-requires : tie.Need-read-requires
+read-requires c κs = search needs
+
+write-refusal-requires : tie.Need-write-refusal-requires
+write-refusal-requires c κs = search needs
+
+same-length : tie.Need-same-length
+same-length c = search needs
+
+same-length-2 : tie.Need-same-length-2
+same-length-2 c = search needs
+
+returns : tie.Need-returns
+returns c =
+    let a = c .before .before .before .before .before .before .before .before .before .before .before .before .before .before .before .args in
+    refusal-scored
+    (a .sheet .now)
+    (a .pages .now)
+    (a .dir .now)
+    (a .answers .now)
+    (a .out .now)
+    (c .before .before .before .before .before .before .before .before .before .before .before .before .before .before .before .pre)
+    _
+    _
+    (c .before .before .before .before .before .before .before .before .read .ensures)
+    (c .before .before .before .before .if1 .taken)
+    (c .before .before .write-refusal .ensures)
+
+score-bid-requires : tie.Need-score-bid-requires
+score-bid-requires c κs =
+    let a = c .before .before .before .before .before .before .before .before .before .before .before .before .before .before .before .args in
+    let g = c .before .before .before .before .before .before .before .pages .given in
+    good-bid
+    (a .sheet .now)
+    (a .pages .now)
+    (a .dir .now)
+    (a .answers .now)
+    (a .out .now)
+    (c .before .before .before .before .before .before .before .before .before .before .before .before .before .before .before .pre)
+    _
+    _
+    (c .before .before .before .before .before .before .before .before .read .ensures)
+    (c .before .before .before .before .if1 .left)
+    (omega (arith, g))
+
+same-length-3 : tie.Need-same-length-3
+same-length-3 c = search needs
+
+same-length-4 : tie.Need-same-length-4
+same-length-4 c = search needs
+
+same-length-5 : tie.Need-same-length-5
+same-length-5 c = search needs
+
+same-length-6 : tie.Need-same-length-6
+same-length-6 c = search needs
+
+returns-2 : tie.Need-returns-2
+returns-2 c =
+    let a = c .before .before .before .before .before .before .before .before .before .before .before .before .before .before .before .before .before .before .before .before .before .before .args in
+    sheet-scored
+    (a .sheet .now)
+    (a .pages .now)
+    (a .dir .now)
+    (a .answers .now)
+    (a .out .now)
+    (c .before .before .before .before .before .before .before .before .before .before .before .before .before .before .before .before .before .before .before .before .before .before .pre)
+    _
+    _
+    (c .before .before .before .before .before .before .before .before .before .before .before .before .before .before .before .read .ensures)
+    (c .before .before .before .before .before .before .before .before .before .before .before .if1 .left)
+    (c .before .before .before .before .before .before .score-bid .ensures)
+
+pub score-spec : {M : Type 1} → statement M
+score-spec =
+    tie.close
+    (tie.spec
+    read-requires
+    write-refusal-requires
+    same-length
+    same-length-2
+    returns
+    score-bid-requires
+    same-length-3
+    same-length-4
+    same-length-5
+    same-length-6
+    returns-2)
