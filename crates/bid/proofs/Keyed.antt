@@ -3,7 +3,7 @@
 use mathlib.Core.Path.{_≡_, refl, sym, ap, _∙_}
 use mathlib.Core.Bool.{Bool, true, false, false≢true}
 use mathlib.Core.List.{List, [], _∷_}
-use Prim.Native.Nat.{ℕ, zero, suc, _+_, _-_, _≤_, _<_}
+use Prim.Native.Nat.{ℕ, zero, suc, _+_, _-_, _≤_}
 use native.Mathlib.Nat.{sub-zero, zero-sub, suc-sub-suc}
 use native.Mathlib.Omega.{arith}
 use lib.ListN.{take, drop, length-drop}
@@ -14,7 +14,7 @@ use Rattle.figures.specs.Choice.{if_then_else_, ∣_∣}
 use Rattle.figures.specs.Refusals.{noSuchLine}
 use Rattle.sheets.specs.Text.{starts}
 use Rattle.sheets.specs.Number.{Value}
-use Rattle.sheets.specs.Lines.{Lines, line, lines, bad, before, under}
+use Rattle.sheets.specs.Lines.{lines, Reading, bad, before, under}
 use Rattle.sheets.proofs.Text.{short-lacks}
 use Rattle.lines.proofs.Cursor.{ClosedAt, MissingAt, ended, not-closed}
 use Rattle.bid.specs.Answers.{KeyedAt}
@@ -40,12 +40,13 @@ module _ (s : List ℕ) (at : ℕ) (key : List ℕ) where
     abbrev l : List ℕ
     l = take (stop - at) (drop at s)
 
+    -- What the line comes to, by whether the key stands in front.
+    abbrev byTest : (List ℕ → Value) → Bool → Reading
+    byTest meant t = if t then before (meant (drop ∣ key ∣ l)) (lines (drop (stop + 1) s)) else bad noSuchLine
+
     by-key : (meant : List ℕ → Value) (t : Bool) → starts key l ≡ t
-        → under key meant (lines (drop at s))
-        ≡ (if t then before (meant (drop ∣ key ∣ l)) (lines (drop (stop + 1) s)) else bad noSuchLine)
-    by-key meant t test =
-        ap (under key meant) (closed .reads)
-        ∙ ap (λ (b : Bool). if b then before (meant (drop ∣ key ∣ l)) (lines (drop (stop + 1) s)) else bad noSuchLine) test
+        → under key meant (lines (drop at s)) ≡ byTest meant t
+    by-key meant t test = ap (under key meant) (closed .reads) ∙ ap (byTest meant) test
 
     pub other-key : starts key l ≡ false → KeyedAt s at key NoSuchLine
     other-key test = record { under-key = λ meant. by-key meant false test; inside = tt }

@@ -3,3 +3,4 @@ pub mod Keyed
 pub mod Readings
 pub mod Listing
 pub mod Reader
+pub mod Determined

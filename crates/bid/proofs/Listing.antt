@@ -1,7 +1,6 @@
 -- The page lines by the answers of one after the other: how a count, and a buffer, grow with each.
 -- Assumes nothing.
-use mathlib.Core.Path.{_≡_, refl, sym, ap, subst, _∙_}
-use mathlib.Core.Bool.{false}
+use mathlib.Core.Path.{_≡_, refl, sym, ap, _∙_}
 use mathlib.Core.List.{List, [], _∷_, _++_, append-nil, append-assoc}
 use Prim.Native.Nat.{ℕ, suc, _+_, _≤_, _<_}
 use native.Mathlib.Omega.{arith}
@@ -18,14 +17,22 @@ use Rattle.sheets.proofs.Lines.{not-at-end}
 use Rattle.sheets.proofs.Text.{from-place}
 use Rattle.bid.specs.Answers.{numberOf, told, Reads, sizeOf, Filled}
 use Rattle.bid.specs.declared.keyed_lines.Reading.{Reading}
-use Rattle.bid.specs.declared.keyed_lines.Reading.the-variants.{Good, NoSuchLine, TooManyPages, PolicyNotKnown, SizeNotKnown, NotInForm}
+use Rattle.bid.specs.declared.keyed_lines.Reading.the-variants.{Good, NoSuchLine, TooManyPages}
+use Rattle.bid.specs.declared.keyed_lines.Reading.the-variants.{PolicyNotKnown, SizeNotKnown, NotInForm}
 use Rattle.bid.specs.declared.Listed.{Listed}
 use Rattle.bid.specs.declared.Listed.the-variants as Listed
 use Rattle.bid.proofs.keyed_lines.Reading.{the-type}
 
+-- The cases of a line's answer from the second on, which are its refusals.
+abbrev refusals : List ℕ
+refusals = 1 ∷ 2 ∷ 3 ∷ 4 ∷ 5 ∷ []
+
+abbrev pub Wrong : Reading → Type 0
+Wrong r = OneOf refusals (tagOf the-type r)
+
 -- An answer that is not good is a refusal with its number.
-pub refuses : (s : List ℕ) (r : Reading) → OneOf (1 ∷ 2 ∷ 3 ∷ 4 ∷ 5 ∷ []) (tagOf the-type r) → told s r ≡ bad (numberOf r)
-refuses s (Good value next) h = absurd (miss (1 ∷ 2 ∷ 3 ∷ 4 ∷ 5 ∷ []) 0 tt h)
+pub refuses : (s : List ℕ) (r : Reading) → Wrong r → told s r ≡ bad (numberOf r)
+refuses s (Good value next) h = absurd (miss refusals 0 tt h)
 refuses s NoSuchLine h = refl
 refuses s TooManyPages h = refl
 refuses s PolicyNotKnown h = refl
@@ -35,7 +42,8 @@ refuses s NotInForm h = refl
 -- A page line that is good, and the lines from the next place on.
 pub record PageRead (s : List ℕ) (at n page next : ℕ) : Type 0 where
   pub one-of-thousand : n < 1000
-  pub goes-on : pagesFrom n (lines (drop at s)) ≡ onto n (good page (lines (drop next s))) (pagesFrom (n + 1) (lines (drop next s)))
+  pub goes-on : pagesFrom n (lines (drop at s))
+      ≡ onto n (good page (lines (drop next s))) (pagesFrom (n + 1) (lines (drop next s)))
   pub further : at < next
   pub inside : next ≤ ∣ s ∣
 
@@ -53,7 +61,7 @@ page-read s at n page next h =
     }
 
 -- A page line that is wrong decides.
-pub page-wrong : (s : List ℕ) (at n : ℕ) (r : Reading) → at < ∣ s ∣ → OneOf (1 ∷ 2 ∷ 3 ∷ 4 ∷ 5 ∷ []) (tagOf the-type r)
+pub page-wrong : (s : List ℕ) (at n : ℕ) (r : Reading) → at < ∣ s ∣ → Wrong r
     → Reads s at (pageLine n (lines (drop at s))) r
     → pagesFrom n (lines (drop at s)) ≡ refusedAt (numberOf r) (numberOfLine n)
 page-wrong s at n r inside tag h =
@@ -77,9 +85,11 @@ after-one-more n page rest (listed pages) =
 after-one-more n page rest (refusedAt number line) = refl
 
 pub counts-on : (s : List ℕ) (at n page next : ℕ) → PageRead s at n page next
-    → after n (sizeOf (pagesFrom n (lines (drop at s)))) ≡ after (n + 1) (sizeOf (pagesFrom (n + 1) (lines (drop next s))))
+    → after n (sizeOf (pagesFrom n (lines (drop at s))))
+    ≡ after (n + 1) (sizeOf (pagesFrom (n + 1) (lines (drop next s))))
 counts-on s at n page next h =
-    ap (λ ps. after n (sizeOf ps)) (h .goes-on) ∙ after-one-more n page (lines (drop next s)) (pagesFrom (n + 1) (lines (drop next s)))
+    let rest = lines (drop next s) in
+    ap (λ ps. after n (sizeOf ps)) (h .goes-on) ∙ after-one-more n page rest (pagesFrom (n + 1) rest)
 
 -- THE BUFFER
 
@@ -113,7 +123,8 @@ nothing-written s start w = record {
     behind-none (refusedAt number line) = refl
 
 module _ (s : List ℕ) (start : ℕ) (w : List ℕ) (at n : ℕ) (now : List ℕ) (h : Writing s start w at n now) where
-  pub writes-on : (page next : ℕ) → n < ∣ w ∣ → PageRead s at n page next → Writing s start w next (n + 1) (set now n page)
+  pub writes-on : (page next : ℕ) → n < ∣ w ∣ → PageRead s at n page next
+      → Writing s start w next (n + 1) (set now n page)
   writes-on page next room one = record {
     written = h .written ++ (page ∷ []);
     as-many = length-append (h .written) (page ∷ []) ∙ omega (arith, h .as-many);

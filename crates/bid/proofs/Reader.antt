@@ -1,40 +1,51 @@
--- The sheet by its lines' answers, in order: the first that is wrong decides, and after three good ones the page lines do.
+-- The sheet by its lines' answers, in order: the first that is wrong decides; after three good ones the page lines do.
 -- Assumes nothing.
 use mathlib.Core.Path.{_≡_, refl, sym, ap, subst, _∙_}
 use mathlib.Core.Bool.{Bool}
-use mathlib.Core.List.{List, [], _∷_}
+use mathlib.Core.List.{List}
 use Prim.Native.Nat.{ℕ, _≤_, _<_}
 use native.Mathlib.Omega.{arith}
 use lib.ListN.{drop}
-use types.Run.{OneOf}
-use denote.Enum.Declared.{tagOf}
 use borrow.Author.Tests.{lt-ltb, le-ltb}
 use Rattle.figures.specs.Choice.{if_then_else_, ∣_∣}
 use Rattle.figures.specs.Refusals.{bufferTooShort, sheetTooLong}
 use Rattle.sheets.specs.Lines as Lines
 use Rattle.sheets.specs.Lines.{Lines, lines}
-use Rattle.sheets.specs.Bid.{Meaning, bid, refused, Pages, listed, refusedAt, policyLine, sizeLine, costLine}
+use Rattle.sheets.specs.Bid.{Meaning, refused, Pages, listed, refusedAt, policyLine, sizeLine, costLine}
 use Rattle.sheets.specs.Bid.{pagesFrom, withPages, afterLine, inOrder, meaning}
-use Rattle.sheets.specs.Refusals.{over, answer, onRead}
-use Rattle.bid.specs.Answers.{numberOf, Reads, sizeOf}
+use Rattle.sheets.specs.Refusals.{over, Read, answer, onRead}
+use Rattle.bid.specs.Answers.{numberOf, told, Reads, sizeOf}
 use Rattle.bid.specs.Promises.{refusedBid, Answers}
 use Rattle.bid.specs.declared.Bid.{Bid}
 use Rattle.bid.specs.declared.keyed_lines.Reading.{Reading}
 use Rattle.bid.specs.declared.keyed_lines.Reading.the-variants.{Good}
 use Rattle.bid.specs.declared.Listed.the-variants as Listed
-use Rattle.bid.proofs.keyed_lines.Reading.{the-type}
-use Rattle.bid.proofs.Listing.{refuses}
+use Rattle.bid.proofs.Listing.{Wrong, refuses}
 
 -- ONE LINE
 
-module _ {s : List ℕ} {at : ℕ} {reading : Lines.Reading} (n : ℕ) (follows : ℕ → Lines → Meaning) where
-  line-decides : {r : Reading} → Reads s at reading r → OneOf (1 ∷ 2 ∷ 3 ∷ 4 ∷ 5 ∷ []) (tagOf the-type r)
-      → afterLine n reading follows ≡ refused (numberOf r) n
-  line-decides {r} h tag = ap (λ x. afterLine n x follows) (sym (h .tells) ∙ refuses s r tag)
+module _ {s : List ℕ} {at : ℕ} {reading : Lines.Reading} {r : Reading} (n : ℕ) (follows : ℕ → Lines → Meaning) where
+  line-decides : Reads s at reading r → Wrong r → afterLine n reading follows ≡ refused (numberOf r) n
+  line-decides h wrong = ap (λ x. afterLine n x follows) (sym (h .tells) ∙ refuses s r wrong)
 
-  line-goes-on : {value next : ℕ} → Reads s at reading (Good value next)
+  line-goes-on : {value next : ℕ} → Reads s at reading r → r ≡ Good value next
       → afterLine n reading follows ≡ follows value (lines (drop next s))
-  line-goes-on h = ap (λ x. afterLine n x follows) (sym (h .tells))
+  line-goes-on h is = ap (λ x. afterLine n x follows) (sym (h .tells) ∙ ap (told s) is)
+
+-- THE PAGE LINES BY THEIR COUNT
+
+pages-refused : (ps : Pages) {number line : ℕ} → Listed.Refused number line ≡ sizeOf ps → ps ≡ refusedAt number line
+pages-refused (listed pages) h = let never : _≡_ {A = ℕ} 0 1 = cc in absurd (omega arith)
+pages-refused (refusedAt number line) h = cc
+
+pub record Counted (ps : Pages) (count : ℕ) : Type 0 where
+  pub pages : List ℕ
+  pub is-listed : ps ≡ listed pages
+  pub as-many : count ≡ ∣ pages ∣
+
+pub pages-counted : (ps : Pages) {count : ℕ} → Listed.Pages count ≡ sizeOf ps → Counted ps count
+pages-counted (listed pages) h = record { pages = pages; is-listed = refl; as-many = cc }
+pages-counted (refusedAt number line) h = let never : _≡_ {A = ℕ} 0 1 = cc in absurd (omega arith)
 
 -- THE LINES IN ORDER
 
@@ -47,47 +58,37 @@ fromThird policy c ls = afterLine 3 (costLine ls) (fromFourth policy c)
 abbrev fromSecond : ℕ → Lines → Meaning
 fromSecond policy ls = afterLine 2 (sizeLine ls) (fromThird policy)
 
-abbrev Wrong : Reading → Type 0
-Wrong r = OneOf (1 ∷ 2 ∷ 3 ∷ 4 ∷ 5 ∷ []) (tagOf the-type r)
-
-module _ {s : List ℕ} where
-  pub first-wrong : {r : Reading} → Reads s 0 (policyLine (lines s)) r → Wrong r → inOrder (lines s) ≡ refused (numberOf r) 1
+module _ {s : List ℕ} {r₁ : Reading} (first : Reads s 0 (policyLine (lines s)) r₁) where
+  pub first-wrong : Wrong r₁ → inOrder (lines s) ≡ refused (numberOf r₁) 1
   unfolding inOrder
-  first-wrong h tag = line-decides 1 fromSecond h tag
+  first-wrong wrong = line-decides 1 fromSecond first wrong
 
-  module _ {policy second : ℕ} (first : Reads s 0 (policyLine (lines s)) (Good policy second)) where
-    pub second-wrong : {r : Reading} → Reads s second (sizeLine (lines (drop second s))) r → Wrong r
-        → inOrder (lines s) ≡ refused (numberOf r) 2
+  module _ {policy next : ℕ} (first-is : r₁ ≡ Good policy next)
+      {r₂ : Reading} (second : Reads s next (sizeLine (lines (drop next s))) r₂) where
+    after-first : inOrder (lines s) ≡ fromSecond policy (lines (drop next s))
     unfolding inOrder
-    second-wrong h tag = line-goes-on 1 fromSecond first ∙ line-decides 2 (fromThird policy) h tag
+    after-first = line-goes-on 1 fromSecond first first-is
 
-    module _ {c third : ℕ} (size : Reads s second (sizeLine (lines (drop second s))) (Good c third)) where
-      pub third-wrong : {r : Reading} → Reads s third (costLine (lines (drop third s))) r → Wrong r
-          → inOrder (lines s) ≡ refused (numberOf r) 3
-      unfolding inOrder
-      third-wrong h tag =
-          line-goes-on 1 fromSecond first ∙ line-goes-on 2 (fromThird policy) size ∙ line-decides 3 (fromFourth policy c) h tag
+    pub second-wrong : Wrong r₂ → inOrder (lines s) ≡ refused (numberOf r₂) 2
+    second-wrong wrong = after-first ∙ line-decides 2 (fromThird policy) second wrong
 
-      pub pages-decide : {cost fourth : ℕ} → Reads s third (costLine (lines (drop third s))) (Good cost fourth)
-          → inOrder (lines s) ≡ withPages policy c cost (pagesFrom 0 (lines (drop fourth s)))
-      unfolding inOrder
-      pages-decide h =
-          line-goes-on 1 fromSecond first ∙ line-goes-on 2 (fromThird policy) size ∙ line-goes-on 3 (fromFourth policy c) h
+    module _ {c next₂ : ℕ} (second-is : r₂ ≡ Good c next₂)
+        {r₃ : Reading} (third : Reads s next₂ (costLine (lines (drop next₂ s))) r₃) where
+      after-second : inOrder (lines s) ≡ fromThird policy c (lines (drop next₂ s))
+      after-second = after-first ∙ line-goes-on 2 (fromThird policy) second second-is
 
--- THE PAGE LINES BY THEIR COUNT
+      pub third-wrong : Wrong r₃ → inOrder (lines s) ≡ refused (numberOf r₃) 3
+      third-wrong wrong = after-second ∙ line-decides 3 (fromFourth policy c) third wrong
 
-pub pages-refused : (ps : Pages) {number line : ℕ} → Listed.Refused number line ≡ sizeOf ps → ps ≡ refusedAt number line
-pages-refused (listed pages) h = let never : _≡_ {A = ℕ} 0 1 = cc in absurd (omega arith)
-pages-refused (refusedAt number line) h = cc
+      pub pages-decide : {cost next₃ : ℕ} → r₃ ≡ Good cost next₃
+          → inOrder (lines s) ≡ withPages policy c cost (pagesFrom 0 (lines (drop next₃ s)))
+      pages-decide is = after-second ∙ line-goes-on 3 (fromFourth policy c) third is
 
-pub record Counted (ps : Pages) (count : ℕ) : Type 0 where
-  pub pages : List ℕ
-  pub is-listed : ps ≡ listed pages
-  pub as-many : count ≡ ∣ pages ∣
-
-pub pages-counted : (ps : Pages) {count : ℕ} → Listed.Pages count ≡ sizeOf ps → Counted ps count
-pages-counted (listed pages) h = record { pages = pages; is-listed = refl; as-many = cc }
-pages-counted (refusedAt number line) h = let never : _≡_ {A = ℕ} 0 1 = cc in absurd (omega arith)
+      pub wrong-page-decides : {cost next₃ number line : ℕ} → r₃ ≡ Good cost next₃
+          → Listed.Refused number line ≡ sizeOf (pagesFrom 0 (lines (drop next₃ s)))
+          → inOrder (lines s) ≡ refused number line
+      wrong-page-decides {cost} {next₃} is wrong =
+          pages-decide is ∙ ap (withPages policy c cost) (pages-refused (pagesFrom 0 (lines (drop next₃ s))) wrong)
 
 -- THE ANSWER
 
@@ -103,11 +104,9 @@ answers-refusal is so = record {
   words-are = rw is refl;
 }
 
-pub answers-wrong-page : (policy c cost : ℕ) (ps : Pages) {m : Meaning} {number line : ℕ} {w : List ℕ} {r : Bid}
-    → m ≡ withPages policy c cost ps → Listed.Refused number line ≡ sizeOf ps → r ≡ refusedBid number line
-    → Answers (answer m w) r w
-answers-wrong-page policy c cost ps is wrong so =
-    answers-refusal (is ∙ ap (withPages policy c cost) (pages-refused ps wrong)) so
+pub answers-wrong-line : {m : Meaning} {number line n : ℕ} {w : List ℕ} {r : Bid} → m ≡ refused number line
+    → n ≡ number → r ≡ refusedBid n line → Answers (answer m w) r w
+answers-wrong-line {line = line} is same so = answers-refusal is (so ∙ ap (λ (n : ℕ). refusedBid n line) same)
 
 pub answers-bid : {m : Meaning} {policy c cost count : ℕ} {ps : Pages} {w w′ : List ℕ} → m ≡ withPages policy c cost ps
     → Counted ps count → ((pages : List ℕ) → ps ≡ listed pages → w′ ≡ over pages w)
@@ -127,27 +126,31 @@ answers-bid {policy} {c} {cost} is counted filled =
 -- THE REFUSALS BEFORE THE LINES
 
 module _ (s w : List ℕ) where
+  -- The answer by whether the buffer is too short, and the meaning by whether the sheet is too long.
+  abbrev byBuffer : Bool → Read
+  byBuffer short = if short then answer (refused bufferTooShort 0) w else answer (meaning s) w
+
+  abbrev byLength : Bool → Meaning
+  byLength long = if long then refused sheetTooLong 0 else inOrder (lines s)
+
   pub read-by-meaning : 1000 ≤ ∣ w ∣ → onRead s w ≡ answer (meaning s) w
   unfolding onRead
-  read-by-meaning room = ap (λ (b : Bool). if b then answer (refused bufferTooShort 0) w else answer (meaning s) w) (le-ltb _ _ room)
+  read-by-meaning room = ap byBuffer (le-ltb _ _ room)
 
   pub short-buffer : {r : Bid} → ∣ w ∣ < 1000 → r ≡ refusedBid 6 0 → Answers (onRead s w) r w
   unfolding onRead
   short-buffer {r} short so =
-      subst (λ a. Answers a r w)
-      (ap (λ (b : Bool). if b then answer (refused bufferTooShort 0) w else answer (meaning s) w) (sym (lt-ltb _ _ short)))
+      subst (λ a. Answers a r w) (ap byBuffer (sym (lt-ltb _ _ short)))
       (answers-refusal {m = refused bufferTooShort 0} refl so)
 
   pub long-sheet : {r : Bid} → 1000 ≤ ∣ w ∣ → 16000 < ∣ s ∣ → r ≡ refusedBid 7 0 → Answers (onRead s w) r w
   unfolding meaning
   long-sheet {r} room long so =
-      subst (λ a. Answers a r w) (sym (read-by-meaning room))
-      (answers-refusal (ap (λ (b : Bool). if b then refused sheetTooLong 0 else inOrder (lines s)) (lt-ltb _ _ long)) so)
+      subst (λ a. Answers a r w) (sym (read-by-meaning room)) (answers-refusal (ap byLength (lt-ltb _ _ long)) so)
 
   pub by-lines : {r : Bid} {w′ : List ℕ} → 1000 ≤ ∣ w ∣ → ∣ s ∣ ≤ 16000 → Answers (answer (inOrder (lines s)) w) r w′
       → Answers (onRead s w) r w′
   unfolding meaning
   by-lines {r} {w′} room short h =
-      let is : meaning s ≡ inOrder (lines s)
-      = ap (λ (b : Bool). if b then refused sheetTooLong 0 else inOrder (lines s)) (le-ltb _ _ short) in
-      subst (λ a. Answers a r w′) (sym (read-by-meaning room ∙ ap (λ m. answer m w) is)) h
+      subst (λ a. Answers a r w′)
+      (sym (read-by-meaning room ∙ ap (λ (long : Bool). answer (byLength long) w) (le-ltb _ _ short))) h

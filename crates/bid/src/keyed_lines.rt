@@ -1,5 +1,5 @@
-// Each line of a bid sheet against its key and its form. A line's answer is an enum: its value and where the next
-// line starts, or which refusal it is.
+// Each line of a bid sheet against its key and its form. A line's answer is an enum, so that the reader takes it apart
+// where it stands: its value and where the next line starts, or which refusal it is.
 ghost use mathlib.Core.Path.{_≡_};
 ghost use lib.ListN.{drop};
 ghost use Rattle.sheets.specs.Lines.{lines};
@@ -42,6 +42,7 @@ pub fn number_of(reading: Reading) -> u32
     }
 }
 
+// A missing line, one that is not closed and one under another key are the same refusal.
 fn under_key(sheet: &[u8], at: usize, key: &[u8]) -> Keyed
     ensures { λ r. ⌜ KeyedAt (now (sheet .entry)) at (now (key .entry)) r ⌝ }
 {
@@ -112,7 +113,7 @@ pub fn cost_line(sheet: &[u8], at: usize) -> Reading
     Reading::Good(cost, end + 1)
 }
 
-// A page line, with so many page lines before it.
+// A page line, with so many page lines before it: one too many is refused whatever its value.
 pub fn page_line(sheet: &[u8], at: usize, before: u32) -> Reading
     ensures { λ r. ⌜ Reads (now (sheet .entry)) at (pageLine before (lines (drop at (now (sheet .entry))))) r ⌝ }
 {

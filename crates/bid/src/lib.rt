@@ -1,5 +1,5 @@
-// The bid sheet's reader. It is total: any bytes get an answer, and pages are written only when the whole sheet is known
-// to be good. What it promises is in specs/Promises.
+// The bid sheet's reader. It is total: any bytes get an answer, and pages are written only when the whole sheet is
+// known to be good. What it promises is in specs/Promises.
 ghost use mathlib.Core.Path.{_≡_};
 ghost use Prim.Native.Nat.{_≤_};
 ghost use lib.ListN.{length, drop};
@@ -42,6 +42,7 @@ fn refused(number: u32, line: u32) -> Bid
     }
 }
 
+// Counts before any page is written: a wrong line further down leaves the buffer as it was.
 fn count_pages(sheet: &[u8], start: usize) -> Listed
     ensures { λ r. ⌜ r ≡ sizeOf (pagesFrom 0 (lines (drop start (now (sheet .entry))))) ⌝ }
 {

@@ -11,10 +11,6 @@ use Rattle.bid.specs.declared.Listed.the-variants as Listed
 use Rattle.bid.proofs.Listing.{PageRead, page-read, page-wrong, after, after-none, counts-on}
 use Rattle.bid.proofs.count_pages.Statement.{statement}
 use Rattle.bid.proofs.count_pages.Tie as tie
-use Rattle.bid.proofs.count_pages.Reads as reads
-use Rattle.bid.proofs.count_pages.Lts as lts
-use Rattle.bid.proofs.keyed_lines.number_of.Reads as number-of-reads
-use Rattle.bid.proofs.keyed_lines.page_line.Reads as page-line-reads
 
 abbrev Inv-loop : tie.InvT-loop
 Inv-loop sheet start at₀ count₀ at count =
@@ -25,17 +21,10 @@ abbrev μ-loop : tie.MeasureT-loop
 μ-loop sheet start at₀ count₀ at count = length sheet - at
 
 -- A good page line, in the loop.
-abbrev Read : Type 0
-Read =
-    lts.After-page
-    (page-line-reads.Asked, page-line-reads.Learnt, number-of-reads.Asked, number-of-reads.Learnt)
-    reads.Pre
-    reads.Post
-    Inv-loop
-    μ-loop
-
-good-page : (c : Read)
-    → PageRead (c .before .before .before .before .before .before .args .sheet .now) (c .before .before .before .before .loop .at) (c .before .before .before .before .loop .count) (c .page .given .0 .0) (c .page .given .0 .1 .0)
+good-page : (c : tie.After-page Inv-loop μ-loop)
+    → let in-loop = c .before .before .before .before in
+    let s = in-loop .before .before .args .sheet .now in
+    PageRead s (in-loop .loop .at) (in-loop .loop .count) (c .page .given .0 .0) (c .page .given .0 .1 .0)
 good-page c = page-read _ _ _ _ _ (subst (Reads _ _ _) (c .page .given .1) (c .before .before .page-line .ensures))
 
 loop-holds : tie.Need-loop-holds Inv-loop μ-loop
@@ -56,9 +45,11 @@ add-t10 c = let few = c .before .before .before .before .loop .inv .0 in search 
 
 returns : tie.Need-returns Inv-loop μ-loop
 returns c =
-    let s = c .before .before .before .before .before .before .args .sheet .now in
-    let v = c .before .before .before .before .loop in
-    let wrong = page-wrong s (v .at) (v .count) _ (c .before .before .before .loop-test .taken) (c .before .match .keys2) (c .before .before .page-line .ensures) in
+    let page = c .before .before in
+    let v = page .before .before .loop in
+    let s = page .before .before .before .before .args .sheet .now in
+    let inside = page .before .loop-test .taken in
+    let wrong = page-wrong s (v .at) (v .count) _ inside (c .before .match .keys2) (page .page-line .ensures) in
     ap (λ number. Listed.Refused number (v .count + 4)) (c .number-of .ensures)
     ∙ sym (v .inv .1 ∙ ap (λ ps. after (v .count) (sizeOf ps)) wrong)
 

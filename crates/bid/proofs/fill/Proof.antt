@@ -5,12 +5,10 @@ use native.Mathlib.Omega.{arith}
 use lib.ListN.{length, length-set}
 use borrow.Author.Needs.{needs}
 use Rattle.bid.specs.Answers.{Reads}
-use Rattle.bid.proofs.Listing.{PageRead, page-read, page-wrong, Writing, nothing-written, writes-on, all-written, never-wrong}
+use Rattle.bid.proofs.Listing.{PageRead, page-read, page-wrong}
+use Rattle.bid.proofs.Listing.{Writing, nothing-written, writes-on, all-written, never-wrong}
 use Rattle.bid.proofs.fill.Statement.{statement}
 use Rattle.bid.proofs.fill.Tie as tie
-use Rattle.bid.proofs.fill.Reads as reads
-use Rattle.bid.proofs.fill.Lts as lts
-use Rattle.bid.proofs.keyed_lines.page_line.Reads as page-line-reads
 
 abbrev Inv-loop : tie.InvT-loop
 Inv-loop sheet start pages₀ at₀ count₀ pages at count =
@@ -19,16 +17,20 @@ Inv-loop sheet start pages₀ at₀ count₀ pages at count =
 abbrev μ-loop : tie.MeasureT-loop
 μ-loop sheet start pages₀ at₀ count₀ pages at count = length sheet - at
 
--- A good page line, in the loop, and room for its page.
-abbrev Read : Type 0
-Read = lts.After-page (page-line-reads.Asked, page-line-reads.Learnt) reads.Pre reads.Post Inv-loop μ-loop
-
-good-page : (c : Read)
-    → PageRead (c .before .before .before .before .before .before .before .args .sheet .now) (c .before .before .before .before .loop .at) (c .before .before .before .before .loop .count) (c .page .given .0 .0) (c .page .given .0 .1 .0)
+-- A good page line, in the loop.
+good-page : (c : tie.After-page Inv-loop μ-loop)
+    → let in-loop = c .before .before .before .before in
+    let s = in-loop .before .before .before .args .sheet .now in
+    PageRead s (in-loop .loop .at) (in-loop .loop .count) (c .page .given .0 .0) (c .page .given .0 .1 .0)
 good-page c = page-read _ _ _ _ _ (subst (Reads _ _ _) (c .page .given .1) (c .before .before .page-line .ensures))
 
-roomy : (c : Read) → c .before .before .before .before .loop .count < length (c .before .before .before .before .before .before .before .args .pages .now)
-roomy c = let few = good-page c .one-of-thousand in omega (arith, c .before .before .before .before .before .before .before .pre)
+-- There is room for its page.
+roomy : (c : tie.After-page Inv-loop μ-loop)
+    → let in-loop = c .before .before .before .before in
+    in-loop .loop .count < length (in-loop .before .before .before .args .pages .now)
+roomy c =
+    let few = good-page c .one-of-thousand in
+    omega (arith, c .before .before .before .before .before .before .before .pre)
 
 loop-holds : tie.Need-loop-holds Inv-loop μ-loop
 loop-holds c = (omega arith, refl, nothing-written _ _ _)
@@ -44,10 +46,10 @@ same-length c = let h = c .before .before .before .loop .inv .1 in search needs
 
 returns : tie.Need-returns Inv-loop μ-loop
 returns c =
-    let s = c .before .before .before .before .before .before .args .sheet .now in
-    let v = c .before .before .before .loop in
+    let page = c .before in
+    let v = page .before .before .loop in
     never-wrong _ _ _ _ _ _ (v .inv .2) _ _
-    (page-wrong s (v .at) (v .count) _ (c .before .before .loop-test .taken) (c .match .keys2) (c .before .page-line .ensures))
+    (page-wrong _ _ _ _ (page .before .loop-test .taken) (c .match .keys2) (page .page-line .ensures))
 
 cast-pages : tie.Need-cast-pages Inv-loop μ-loop
 cast-pages c = let few = good-page (c .before) .one-of-thousand in search needs
@@ -56,7 +58,8 @@ mul-pages : tie.Need-mul-pages Inv-loop μ-loop
 mul-pages c = let few = good-page (c .before) .one-of-thousand in search needs
 
 slice-write-pages : tie.Need-slice-write-pages Inv-loop μ-loop
-slice-write-pages c = let room = roomy (c .before) in omega (arith, c .before .before .before .before .before .loop .inv .1)
+slice-write-pages c =
+    let room = roomy (c .before) in omega (arith, c .before .before .before .before .before .loop .inv .1)
 
 add-count : tie.Need-add-count Inv-loop μ-loop
 add-count c = let few = good-page (c .before) .one-of-thousand in search needs

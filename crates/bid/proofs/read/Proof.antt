@@ -3,22 +3,18 @@ use borrow.Author.Needs.{needs}
 use Rattle.bid.proofs.Reader.{short-buffer, long-sheet, by-lines}
 use Rattle.bid.proofs.read.Statement.{statement}
 use Rattle.bid.proofs.read.Tie as tie
-use Rattle.bid.proofs.read.Reads as reads
-use Rattle.bid.proofs.read.Lts as lts
-use Rattle.bid.proofs.read_lines.Reads as read-lines-reads
-use Rattle.bid.proofs.refused.Reads as refused-reads
 
 refused-requires : tie.Need-refused-requires
 refused-requires c κs = search needs
 
 returns : tie.Need-returns
-returns c = let a = c .before .before .before .before .args in short-buffer (a .sheet .now) (a .pages .now) (c .before .if1 .taken) (c .refused .ensures)
+returns c = short-buffer _ _ (c .before .if1 .taken) (c .refused .ensures)
 
 refused-requires-2 : tie.Need-refused-requires-2
 refused-requires-2 c κs = search needs
 
 returns-2 : tie.Need-returns-2
-returns-2 c = let a = c .before .before .before .before .before .args in long-sheet (a .sheet .now) (a .pages .now) (c .before .before .if1 .left) (c .before .if2 .taken) (c .refused2 .ensures)
+returns-2 c = long-sheet _ _ (c .before .before .if1 .left) (c .before .if2 .taken) (c .refused2 .ensures)
 
 read-lines-requires : tie.Need-read-lines-requires
 read-lines-requires c κs = search needs
@@ -28,8 +24,8 @@ same-length c = search needs
 
 returns-3 : tie.Need-returns-3
 returns-3 c =
-    let a = c .before .before .before .before .before .before .before .before .args in
-    by-lines (a .sheet .now) (a .pages .now) (c .before .before .before .before .before .if1 .left) (c .before .before .before .before .if2 .left) (c .before .before .read-lines .ensures)
+    let read = c .before .before in
+    by-lines _ _ (read .before .before .before .if1 .left) (read .before .before .if2 .left) (read .read-lines .ensures)
 
 pub read-spec : {M : Type 1} → statement M
 read-spec =

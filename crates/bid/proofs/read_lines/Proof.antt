@@ -1,25 +1,10 @@
 -- Line after line: what the answers so far make of the sheet.
-use mathlib.Core.Path.{sym, ap, subst, _∙_}
-use Prim.Native.Nat.{ℕ}
-use lib.ListN.{drop}
+use mathlib.Core.Path.{sym, _∙_}
 use borrow.Author.Needs.{needs}
-use Rattle.sheets.specs.Lines.{lines}
-use Rattle.sheets.specs.Bid.{pagesFrom}
-use Rattle.bid.specs.Answers.{Reads}
-use Rattle.bid.specs.Promises.{refusedBid}
-use Rattle.bid.proofs.Reader.{first-wrong, second-wrong, third-wrong, pages-decide}
-use Rattle.bid.proofs.Reader.{pages-counted, answers-refusal, answers-wrong-page, answers-bid}
+use Rattle.bid.proofs.Reader.{first-wrong, second-wrong, third-wrong, pages-decide, wrong-page-decides}
+use Rattle.bid.proofs.Reader.{pages-counted, answers-refusal, answers-wrong-line, answers-bid}
 use Rattle.bid.proofs.read_lines.Statement.{statement}
 use Rattle.bid.proofs.read_lines.Tie as tie
-use Rattle.bid.proofs.read_lines.Reads as reads
-use Rattle.bid.proofs.read_lines.Lts as lts
-use Rattle.bid.proofs.count_pages.Reads as count-pages-reads
-use Rattle.bid.proofs.fill.Reads as fill-reads
-use Rattle.bid.proofs.keyed_lines.cost_line.Reads as cost-line-reads
-use Rattle.bid.proofs.keyed_lines.number_of.Reads as number-of-reads
-use Rattle.bid.proofs.keyed_lines.policy_line.Reads as policy-line-reads
-use Rattle.bid.proofs.keyed_lines.size_line.Reads as size-line-reads
-use Rattle.bid.proofs.refused.Reads as refused-reads
 
 policy-line-requires : tie.Need-policy-line-requires
 policy-line-requires c κs = search needs
@@ -35,7 +20,9 @@ refused-requires c κs = search needs
 
 returns : tie.Need-returns
 returns c =
-    answers-refusal (first-wrong (c .before .before .before .policy-line .ensures) (c .before .before .match .keys2)) (c .refused .ensures ∙ ap (λ (n : ℕ). refusedBid n 1) (c .before .number-of .ensures))
+    let first = c .before .before in
+    answers-wrong-line (first-wrong (first .before .policy-line .ensures) (first .match .keys2))
+    (c .before .number-of .ensures) (c .refused .ensures)
 
 size-line-requires : tie.Need-size-line-requires
 size-line-requires c κs = search needs
@@ -51,8 +38,12 @@ refused-requires-2 c κs = search needs
 
 returns-2 : tie.Need-returns-2
 returns-2 c =
-    let first = subst (Reads _ _ _) (c .before .before .before .before .before .policy-read .given .1) (c .before .before .before .before .before .before .before .policy-line .ensures) in
-    answers-refusal (second-wrong first (c .before .before .before .size-line .ensures) (c .before .before .match2 .keys2)) (c .refused2 .ensures ∙ ap (λ (n : ℕ). refusedBid n 2) (c .before .number-of2 .ensures))
+    let second = c .before .before in
+    let first = second .before .before .before in
+    answers-wrong-line
+    (second-wrong (first .before .before .policy-line .ensures) (first .policy-read .given .1)
+    (second .before .size-line .ensures) (second .match2 .keys2))
+    (c .before .number-of2 .ensures) (c .refused2 .ensures)
 
 cost-line-requires : tie.Need-cost-line-requires
 cost-line-requires c κs = search needs
@@ -68,9 +59,14 @@ refused-requires-3 c κs = search needs
 
 returns-3 : tie.Need-returns-3
 returns-3 c =
-    let first = subst (Reads _ _ _) (c .before .before .before .before .before .before .before .before .before .policy-read .given .1) (c .before .before .before .before .before .before .before .before .before .before .before .policy-line .ensures) in
-    let size = subst (Reads _ _ _) (c .before .before .before .before .before .size-read .given .1) (c .before .before .before .before .before .before .before .size-line .ensures) in
-    answers-refusal (third-wrong first size (c .before .before .before .cost-line .ensures) (c .before .before .match3 .keys2)) (c .refused3 .ensures ∙ ap (λ (n : ℕ). refusedBid n 3) (c .before .number-of3 .ensures))
+    let third = c .before .before in
+    let second = third .before .before .before in
+    let first = second .before .before .before .before in
+    answers-wrong-line
+    (third-wrong (first .before .before .policy-line .ensures) (first .policy-read .given .1)
+    (second .before .before .size-line .ensures) (second .size-read .given .1)
+    (third .before .cost-line .ensures) (third .match3 .keys2))
+    (c .before .number-of3 .ensures) (c .refused3 .ensures)
 
 count-pages-requires : tie.Need-count-pages-requires
 count-pages-requires c κs = search needs
@@ -89,17 +85,15 @@ fill-requires c κs = search needs
 
 returns-4 : tie.Need-returns-4
 returns-4 c =
-    let first = subst (Reads _ _ _) (c .before .before .before .before .before .before .before .before .before .before .before .before .before .before .policy-read .given .1) (c .before .before .before .before .before .before .before .before .before .before .before .before .before .before .before .before .policy-line .ensures) in
-    let size = subst (Reads _ _ _) (c .before .before .before .before .before .before .before .before .before .before .size-read .given .1) (c .before .before .before .before .before .before .before .before .before .before .before .before .size-line .ensures) in
-    let cost = subst (Reads _ _ _) (c .before .before .before .before .before .before .cost-read .given .1) (c .before .before .before .before .before .before .before .before .cost-line .ensures) in
-    let ps = pagesFrom 0 (lines (drop (c .before .before .before .before .before .before .cost-read .given .0 .1 .0) (c .before .before .before .before .before .before .before .before .before .before .before .before .before .before .before .before .before .before .before .args .sheet .now))) in
-    answers-wrong-page
-    (c .before .before .before .before .before .before .before .before .before .before .before .before .before .before .policy-read .given .0 .0)
-    (c .before .before .before .before .before .before .before .before .before .before .size-read .given .0 .0)
-    (c .before .before .before .before .before .before .cost-read .given .0 .0)
-    ps
-    (pages-decide first size cost)
-    (sym (c .before .before .listed .given .1) ∙ c .before .before .before .before .count-pages .ensures)
+    let listed = c .before .before in
+    let third = listed .before .before .before .before in
+    let second = third .before .before .before .before in
+    let first = second .before .before .before .before in
+    answers-refusal
+    (wrong-page-decides (first .before .before .policy-line .ensures) (first .policy-read .given .1)
+    (second .before .before .size-line .ensures) (second .size-read .given .1)
+    (third .before .before .cost-line .ensures) (third .cost-read .given .1)
+    (sym (listed .listed .given .1) ∙ listed .before .before .count-pages .ensures))
     (c .refused4 .ensures)
 
 same-length : tie.Need-same-length
@@ -107,11 +101,16 @@ same-length c = search needs
 
 returns-5 : tie.Need-returns-5
 returns-5 c =
-    let first = subst (Reads _ _ _) (c .before .before .before .before .before .before .before .before .before .before .before .before .before .before .before .before .before .policy-read .given .1) (c .before .before .before .before .before .before .before .before .before .before .before .before .before .before .before .before .before .before .before .policy-line .ensures) in
-    let size = subst (Reads _ _ _) (c .before .before .before .before .before .before .before .before .before .before .before .before .before .size-read .given .1) (c .before .before .before .before .before .before .before .before .before .before .before .before .before .before .before .size-line .ensures) in
-    let cost = subst (Reads _ _ _) (c .before .before .before .before .before .before .before .before .before .cost-read .given .1) (c .before .before .before .before .before .before .before .before .before .before .before .cost-line .ensures) in
-    let counted = pages-counted _ (sym (c .before .before .before .before .before .listed2 .given .1) ∙ c .before .before .before .before .before .before .before .count-pages .ensures) in
-    answers-bid (pages-decide first size cost) counted (c .before .before .fill .ensures)
+    let listed = c .before .before .before .before .before in
+    let third = listed .before .before .before .before in
+    let second = third .before .before .before .before in
+    let first = second .before .before .before .before in
+    answers-bid
+    (pages-decide (first .before .before .policy-line .ensures) (first .policy-read .given .1)
+    (second .before .before .size-line .ensures) (second .size-read .given .1)
+    (third .before .before .cost-line .ensures) (third .cost-read .given .1))
+    (pages-counted _ (sym (listed .listed2 .given .1) ∙ listed .before .before .count-pages .ensures))
+    (c .before .before .fill .ensures)
 
 pub read-lines-spec : {M : Type 1} → statement M
 read-lines-spec =

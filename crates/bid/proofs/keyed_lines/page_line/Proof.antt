@@ -1,37 +1,22 @@
 -- A line under its key, then the count of those before it, then its value by the form of a whole number.
-use mathlib.Core.Path.{refl, sym, ap, subst, _∙_}
-use borrow.Author.Needs.{needs}
+use mathlib.Core.Path.{refl, sym, ap, _∙_}
 use mathlib.Core.Bool.{Bool}
 use mathlib.Core.List.{List}
 use Prim.Native.Nat.{ℕ}
+use borrow.Author.Needs.{needs}
 use borrow.Author.Tests.{le-ltb, lt-ltb}
 use Rattle.figures.specs.Choice.{if_then_else_}
 use Rattle.figures.specs.Refusals.{tooManyPages}
 use Rattle.sheets.specs.Number.{Value, wrong, whole}
-use Rattle.sheets.specs.Bid.{pageMeant, pageLine}
+use Rattle.sheets.specs.Bid.{pageLine}
 use Rattle.numbers.specs.Meant.{meant}
-use Rattle.sheets.specs.Text.{bytes}
-use Rattle.bid.specs.Answers.{KeyedAt}
-use Rattle.bid.specs.declared.keyed_lines.Keyed.the-variants as Keyed
-use Rattle.bid.proofs.Readings.{no-line-read, good-read, wrong-read}
+use Rattle.bid.proofs.Readings.{value-inside, no-line-read, good-read, wrong-read}
 use Rattle.bid.proofs.keyed_lines.page_line.Statement.{statement}
 use Rattle.bid.proofs.keyed_lines.page_line.Tie as tie
-use Rattle.bid.proofs.keyed_lines.page_line.Reads as reads
-use Rattle.bid.proofs.keyed_lines.page_line.Lts as lts
-use Rattle.bid.proofs.keyed_lines.under_key.Reads as under-key-reads
-use Rattle.numbers.proofs.whole.Reads as whole-reads
 
 -- The value counts for a page line among the first thousand.
 abbrev counted : List ℕ → Bool → Value
 counted s few = if few then whole s else wrong tooManyPages
-
--- Where the line stands under its key.
-abbrev Found : Type 0
-Found =
-    lts.After-start (under-key-reads.Asked, under-key-reads.Learnt, whole-reads.Asked, whole-reads.Learnt) reads.Pre reads.Post
-
-keyed : (c : Found) → KeyedAt (c .before .before .before .before .before .args .sheet .now) (c .before .before .before .before .before .args .at) (bytes "page=") (Keyed.Value (c .start .given .0 .0) (c .start .given .0 .1 .0))
-keyed c = subst (KeyedAt _ _ _) (c .start .given .1) (c .before .before .under-key .ensures)
 
 slice-aggregate-under-key : tie.Need-slice-aggregate-under-key
 slice-aggregate-under-key c = search needs
@@ -47,24 +32,29 @@ enum-told c = search needs
 
 returns : tie.Need-returns
 unfolding pageLine
-returns c =
-    let a = c .before .before .before .before .before .args in
-    no-line-read (pageMeant (a .before))
-    (subst (KeyedAt (a .sheet .now) (a .at) (bytes "page=")) (c .enum-told .given .1) (c .before .before .under-key .ensures))
+returns c = no-line-read (c .before .before .under-key .ensures) _ (c .enum-told .given .1)
 
 returns-2 : tie.Need-returns-2
 unfolding pageLine
 returns-2 c =
-    wrong-read _ (keyed (c .before .before)) refl tt (ap (counted _) (le-ltb _ _ (c .if1 .taken)))
+    let found = c .before .before in
+    wrong-read (found .before .before .under-key .ensures) _ (found .start .given .1) refl tt
+    (ap (counted _) (le-ltb _ _ (c .if1 .taken)))
 
 sub-whole : tie.Need-sub-whole
-sub-whole c = let i = keyed (c .before .before) .inside in search needs
+sub-whole c =
+    let found = c .before .before in
+    let i = value-inside (found .before .before .under-key .ensures) (found .start .given .1) in search needs
 
 part-whole-start : tie.Need-part-whole-start
-part-whole-start c = let i = keyed (c .before .before) .inside in search needs
+part-whole-start c =
+    let found = c .before .before in
+    let i = value-inside (found .before .before .under-key .ensures) (found .start .given .1) in search needs
 
 part-whole-end : tie.Need-part-whole-end
-part-whole-end c = let i = keyed (c .before .before) .inside in search needs
+part-whole-end c =
+    let found = c .before .before in
+    let i = value-inside (found .before .before .under-key .ensures) (found .start .given .1) in search needs
 
 whole-requires : tie.Need-whole-requires
 whole-requires c κs = search needs
@@ -78,15 +68,25 @@ enum-told-2 c = search needs
 returns-3 : tie.Need-returns-3
 unfolding pageLine
 returns-3 c =
-    wrong-read _ (keyed (c .before .before .before .before .before .before)) refl tt (ap (counted _) (lt-ltb _ _ (c .before .before .before .before .if1 .left)) ∙ sym (c .before .before .whole .ensures) ∙ ap meant (c .enum-told2 .given .1))
+    let found = c .before .before .before .before .before .before in
+    let few = c .before .before .before .before in
+    wrong-read (found .before .before .under-key .ensures) _ (found .start .given .1) refl tt
+    (ap (counted _) (lt-ltb _ _ (few .if1 .left))
+    ∙ sym (c .before .before .whole .ensures) ∙ ap meant (c .enum-told2 .given .1))
 
 add-t14 : tie.Need-add-t14
-add-t14 c = let i = keyed (c .before .before .before .before .before .before .before) .inside in search needs
+add-t14 c =
+    let found = c .before .before .before .before .before .before .before in
+    let i = value-inside (found .before .before .under-key .ensures) (found .start .given .1) in search needs
 
 returns-4 : tie.Need-returns-4
 unfolding pageLine
 returns-4 c =
-    good-read _ (keyed (c .before .before .before .before .before .before .before)) (ap (counted _) (lt-ltb _ _ (c .before .before .before .before .before .if1 .left)) ∙ sym (c .before .before .before .whole .ensures) ∙ ap meant (c .before .page .given .1))
+    let found = c .before .before .before .before .before .before .before in
+    let few = c .before .before .before .before .before in
+    good-read (found .before .before .under-key .ensures) _ (found .start .given .1)
+    (ap (counted _) (lt-ltb _ _ (few .if1 .left))
+    ∙ sym (c .before .before .before .whole .ensures) ∙ ap meant (c .before .page .given .1))
 
 pub page-line-spec : {M : Type 1} → statement M
 page-line-spec =

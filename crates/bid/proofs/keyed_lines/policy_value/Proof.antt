@@ -1,6 +1,6 @@
 -- The value is compared in the definition's order: blank, car, cart.
 use mathlib.Core.Path.{_≡_, refl, sym, _∙_}
-use mathlib.Core.Bool.{Bool, true, false}
+use mathlib.Core.Bool.{Bool}
 use mathlib.Core.List.{List, []}
 use Prim.Native.Nat.{ℕ}
 use borrow.Author.Needs.{needs}
@@ -21,9 +21,7 @@ by-tests : (s : List ℕ) {a b c : Bool} → same s (bytes "") ≡ a → same s 
 by-tests s e f g = rw (sym e, sym f, sym g) refl
 
 returns : tie.Need-returns
-returns c =
-    let s = c .before .before .args .text .now in
-    by-tests s (same-starts s [] (c .if1 .taken)) refl refl
+returns c = let s = c .before .before .args .text .now in by-tests s (same-starts s [] (c .if1 .taken)) refl refl
 
 slice-aggregate-equal : tie.Need-slice-aggregate-equal
 slice-aggregate-equal c = search needs
@@ -33,8 +31,9 @@ equal-requires c κs = search needs
 
 returns-2 : tie.Need-returns-2
 returns-2 c =
-    let s = c .before .before .before .before .before .args .text .now in
-    by-tests s (lengths-differ s [] (c .before .before .before .if1 .left)) (sym (c .before .equal .ensures) ∙ c .if2 .taken) refl
+    let full = c .before .before .before in
+    let s = full .before .before .args .text .now in
+    by-tests s (lengths-differ s [] (full .if1 .left)) (sym (c .before .equal .ensures) ∙ c .if2 .taken) refl
 
 slice-aggregate-equal-2 : tie.Need-slice-aggregate-equal-2
 slice-aggregate-equal-2 c = search needs
@@ -44,18 +43,22 @@ equal-requires-2 c κs = search needs
 
 returns-3 : tie.Need-returns-3
 returns-3 c =
-    let s = c .before .before .before .before .before .before .before .before .args .text .now in
+    let other = c .before .before .before in
+    let full = other .before .before .before in
+    let s = full .before .before .args .text .now in
     by-tests s
-    (lengths-differ s [] (c .before .before .before .before .before .before .if1 .left))
-    (sym (c .before .before .before .before .equal .ensures) ∙ c .before .before .before .if2 .left)
+    (lengths-differ s [] (full .if1 .left))
+    (sym (other .before .equal .ensures) ∙ other .if2 .left)
     (sym (c .before .equal2 .ensures) ∙ c .if3 .taken)
 
 returns-4 : tie.Need-returns-4
 returns-4 c =
-    let s = c .before .before .before .before .before .before .before .before .args .text .now in
+    let other = c .before .before .before in
+    let full = other .before .before .before in
+    let s = full .before .before .args .text .now in
     by-tests s
-    (lengths-differ s [] (c .before .before .before .before .before .before .if1 .left))
-    (sym (c .before .before .before .before .equal .ensures) ∙ c .before .before .before .if2 .left)
+    (lengths-differ s [] (full .if1 .left))
+    (sym (other .before .equal .ensures) ∙ other .if2 .left)
     (sym (c .before .equal2 .ensures) ∙ c .if3 .left)
 
 pub policy-value-spec : {M : Type 1} → statement M

@@ -1,14 +1,15 @@
+-- A closed line, by the cursor; then its key, by its first bytes.
 use mathlib.Core.Path.{sym, _∙_}
-use native.Mathlib.Omega.{arith}
 use borrow.Author.Needs.{needs}
-use Rattle.lines.proofs.Cursor.{closed-line, missing-line}
+use Rattle.lines.proofs.Cursor.{ClosedAt, closed-line, missing-line}
 use Rattle.bid.proofs.Keyed.{no-line, its-key, other-key}
 use Rattle.bid.proofs.keyed_lines.under_key.Statement.{statement}
 use Rattle.bid.proofs.keyed_lines.under_key.Tie as tie
-use Rattle.bid.proofs.keyed_lines.under_key.Reads as reads
-use Rattle.bid.proofs.keyed_lines.under_key.Lts as lts
-use Rattle.lines.proofs.line_at.Reads as line-at-reads
-use Rattle.text.proofs.starts_with.Reads as starts-with-reads
+
+-- The closed line that the cursor found.
+closed : (c : tie.After-end)
+    → let a = c .before .before .before .before .before .args in ClosedAt (a .sheet .now) (a .at) (c .end .given .0 .0)
+closed c = closed-line _ _ _ (sym (c .before .before .line-at .ensures) ∙ c .end .given .1)
 
 line-at-requires : tie.Need-line-at-requires
 line-at-requires c κs = search needs
@@ -20,48 +21,36 @@ enum-told : tie.Need-enum-told
 enum-told c = search needs
 
 returns : tie.Need-returns
-returns c =
-    let a = c .before .before .before .before .before .args in
-    no-line _ _ _ (missing-line (a .sheet .now) (a .at) (sym (c .before .before .line-at .ensures) ∙ c .enum-told .given .1))
+returns c = no-line _ _ _ (missing-line _ _ (sym (c .before .before .line-at .ensures) ∙ c .enum-told .given .1))
 
 sub-starts-with : tie.Need-sub-starts-with
-sub-starts-with c =
-    let a = c .before .before .before .before .before .before .args in
-    closed-line (a .sheet .now) (a .at) _ (sym (c .before .before .before .line-at .ensures) ∙ c .before .end .given .1) .from
+sub-starts-with c = closed (c .before) .from
 
 part-starts-with-start : tie.Need-part-starts-with-start
-part-starts-with-start c =
-    let a = c .before .before .before .before .before .before .args in
-    let h = closed-line (a .sheet .now) (a .at) _ (sym (c .before .before .before .line-at .ensures) ∙ c .before .end .given .1) in
-    search needs
+part-starts-with-start c = let h = closed (c .before) in search needs
 
 part-starts-with-end : tie.Need-part-starts-with-end
-part-starts-with-end c =
-    let a = c .before .before .before .before .before .before .args in
-    let h = closed-line (a .sheet .now) (a .at) _ (sym (c .before .before .before .line-at .ensures) ∙ c .before .end .given .1) in
-    search needs
+part-starts-with-end c = let h = closed (c .before) in search needs
 
 starts-with-requires : tie.Need-starts-with-requires
 starts-with-requires c κs = search needs
 
 add-t13 : tie.Need-add-t13
 add-t13 c =
-    let a = c .before .before .before .before .before .before .before .before .before .args in
-    let h = closed-line (a .sheet .now) (a .at) _ (sym (c .before .before .before .before .before .before .line-at .ensures) ∙ c .before .before .before .before .end .given .1) in
-    let i = its-key _ _ (a .key .now) _ h (sym (c .before .starts-with .ensures) ∙ c .if1 .taken) .inside in
+    let line = c .before .before .before .before in
+    let key = line .before .before .before .before .before .args .key .now in
+    let h = its-key _ _ key _ (closed line) (sym (c .before .starts-with .ensures) ∙ c .if1 .taken) .inside in
     search needs
 
 returns-2 : tie.Need-returns-2
 returns-2 c =
-    let a = c .before .before .before .before .before .before .before .before .before .args in
-    let h = closed-line (a .sheet .now) (a .at) _ (sym (c .before .before .before .before .before .before .line-at .ensures) ∙ c .before .before .before .before .end .given .1) in
-    its-key _ _ (a .key .now) _ h (sym (c .before .starts-with .ensures) ∙ c .if1 .taken)
+    let line = c .before .before .before .before in
+    its-key _ _ _ _ (closed line) (sym (c .before .starts-with .ensures) ∙ c .if1 .taken)
 
 returns-3 : tie.Need-returns-3
 returns-3 c =
-    let a = c .before .before .before .before .before .before .before .before .before .args in
-    let h = closed-line (a .sheet .now) (a .at) _ (sym (c .before .before .before .before .before .before .line-at .ensures) ∙ c .before .before .before .before .end .given .1) in
-    other-key _ _ (a .key .now) _ h (sym (c .before .starts-with .ensures) ∙ c .if1 .left)
+    let line = c .before .before .before .before in
+    other-key _ _ _ _ (closed line) (sym (c .before .starts-with .ensures) ∙ c .if1 .left)
 
 pub under-key-spec : {M : Type 1} → statement M
 under-key-spec =
