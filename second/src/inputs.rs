@@ -1,0 +1,518 @@
+// The generators: for each group seeded calls of the probe, the sheets for score and ledger,
+// and the cut or unreadable streams for the wire.
+
+use crate::bids;
+use crate::directory::{decode, fresh, words_for, Directory, Entry, CAR, HEADER, LARGEST_C};
+use crate::probe::{put_call, to_bytes, Call};
+use crate::random::Random;
+use crate::request::request;
+use crate::result::Outcome;
+use crate::run::run;
+
+/// A group of probe calls: its name, its cases in a full comparison, the most cases of one probe process,
+/// and what draws that many calls.
+pub struct Group {
+    pub name: &'static str,
+    pub cases: usize,
+    pub at_once: usize,
+    pub draw: fn(&mut Random, usize) -> Vec<Call>,
+}
+
+pub const GROUPS: [Group; 7] = [
+    Group { name: "requests", cases: 4_000_000, at_once: 80_000, draw: requests },
+    Group { name: "odd", cases: 2_400_000, at_once: 80_000, draw: odd },
+    Group { name: "runs", cases: 3_600, at_once: 300, draw: runs },
+    Group { name: "damaged", cases: 800_000, at_once: 80_000, draw: damaged },
+    Group { name: "fresh", cases: 6_000, at_once: 1_000, draw: fresh_calls },
+    Group { name: "sheets", cases: 100_000, at_once: 4_000, draw: sheets },
+    Group { name: "result", cases: 36_000, at_once: 12_000, draw: results },
+];
+
+// ---- requests ----
+
+/// Short traces, each request on the directory the last one left.
+fn requests(random: &mut Random, count: usize) -> Vec<Call> {
+    let mut calls = Vec::with_capacity(count);
+    while calls.len() < count {
+        let c = random.within(1, 12);
+        let kinds = random.within(c, 3 * c) as u32;
+        let first = random.pick(&[0, 1, 1000, u32::MAX - kinds + 1]);
+        let (hits, history) = (random.pick(&[5, 20, 35, 60]), random.pick(&[0, 15, 35]));
+        let mut dir = fresh_directory(random.pick(&[1, 2]), c as u32);
+        for _ in 0..random.within(20, 100) {
+            let page = next_page(random, &decode(&dir), hits, history, first, kinds);
+            calls.push(Call::Request { dir: dir.clone(), page });
+            request(&mut dir, page);
+        }
+    }
+    calls.truncate(count);
+    calls
+}
+
+fn fresh_directory(policy: u32, c: u32) -> Vec<u32> {
+    let mut dir = vec![0; words_for(c)];
+    fresh(policy, c, &mut dir);
+    dir
+}
+
+/// Percents of listed pages and of history pages; else one of `kinds` pages.
+fn next_page(random: &mut Random, d: &Directory, hits: usize, history: usize, first: u32, kinds: u32) -> u32 {
+    let draw = random.below(100);
+    let near = if random.chance(50) { [&d.t1, &d.t2] } else { [&d.t2, &d.t1] };
+    let far = if random.chance(50) { [&d.b1, &d.b2] } else { [&d.b2, &d.b1] };
+    let lists = if draw < hits { near } else { far };
+    if draw < hits + history {
+        if let Some(list) = lists.into_iter().find(|list| !list.is_empty()) {
+            return list[random.below(list.len())].page;
+        }
+    }
+    first + random.below(kinds as usize) as u32
+}
+
+// ---- odd sound directories ----
+
+fn odd(random: &mut Random, count: usize) -> Vec<Call> {
+    (0..count)
+        .map(|_| {
+            let c = if random.chance(80) { random.within(1, 5) } else { random.within(6, 14) };
+            let dir = odd_directory(random, c);
+            let page = any_page(random, &decode(&dir));
+            Call::Request { dir, page }
+        })
+        .collect()
+}
+
+/// A page of one of the lists, or a new one.
+fn any_page(random: &mut Random, d: &Directory) -> u32 {
+    let new = Vec::new();
+    let list = random.pick(&[&d.t1, &d.t2, &d.b1, &d.b1, &d.b2, &d.b2, &new, &new, &new]);
+    if list.is_empty() {
+        return random.pick(&[0, u32::MAX, 3 * d.c as u32 + 9, 777]);
+    }
+    list[random.below(list.len())].page
+}
+
+/// A sound directory that need not be reachable.
+pub fn odd_directory(random: &mut Random, c: usize) -> Vec<u32> {
+    let policy = random.pick(&[1, 2]);
+    let lengths = odd_lengths(random, policy, c);
+    let mut dir = vec![0; words_for(c as u32)];
+    let q = if policy == CAR { 0 } else { near_limits(random, 2 * c) };
+    dir[..4].copy_from_slice(&[policy, c as u32, near_limits(random, c) as u32, q as u32]);
+    let first = random.pick(&[0, 0, 1, u32::MAX - 3 * c as u32]);
+    let mut pages: Vec<u32> = (0..=3 * c as u32).map(|page| first + page).collect();
+    let percent = random.pick(&[0, 30, 50, 80, 100]);
+    let mut at = HEADER;
+    for (list, length) in lengths.into_iter().enumerate() {
+        dir[4 + list] = length as u32;
+        for _ in 0..length {
+            dir[at] = pages.swap_remove(random.below(pages.len()));
+            dir[at + 1] = odd_flags(random, policy, list, percent);
+            at += 2;
+        }
+    }
+    dir
+}
+
+fn near_limits(random: &mut Random, most: usize) -> usize {
+    match random.below(5) {
+        0 => 0,
+        1 => most,
+        _ => random.within(0, most),
+    }
+}
+
+fn odd_lengths(random: &mut Random, policy: u32, c: usize) -> [usize; 4] {
+    let cached = if random.chance(90) { c } else { random.below(c) };
+    let t1 = near_limits(random, cached);
+    if cached < c {
+        return [t1, cached - t1, 0, 0];
+    }
+    let history = near_limits(random, c);
+    let b1 = if policy == CAR { near_limits(random, history.min(c - t1)) } else { near_limits(random, history) };
+    [t1, c - t1, b1, history - b1]
+}
+
+fn odd_flags(random: &mut Random, policy: u32, list: usize, percent: usize) -> u32 {
+    let bit = random.chance(percent) as u32;
+    let long = if policy == CAR { 0 } else { 2 };
+    match list {
+        0 => bit + long * random.below(2) as u32,
+        1 => bit + long,
+        2 => 0,
+        _ => long,
+    }
+}
+
+// ---- runs ----
+
+fn runs(random: &mut Random, count: usize) -> Vec<Call> {
+    let mut calls = Vec::with_capacity(count);
+    while calls.len() < count {
+        let c = match random.below(100) {
+            0..=59 => random.within(1, 16),
+            60..=84 => random.within(17, 128),
+            85..=96 => random.within(129, 1023),
+            _ => LARGEST_C as usize,
+        };
+        let mut dir = fresh_directory(random.pick(&[1, 2]), c as u32);
+        if random.chance(40) {
+            dir = odd_directory(random, c);
+        } else if c > 128 && random.chance(70) {
+            let filling = filling_runs(&mut dir, c);
+            calls.extend(filling);
+        }
+        for _ in 0..random.within(1, 6) {
+            let call = one_run(random, &dir, c);
+            if let Call::Run { trace, answers, .. } = &call {
+                run(&mut dir, trace, &mut answers.clone());
+            }
+            calls.push(call);
+        }
+    }
+    calls.truncate(count);
+    calls
+}
+
+/// New pages until the directory is full and beyond, at most 1,000 in a run.
+fn filling_runs(dir: &mut [u32], c: usize) -> Vec<Call> {
+    let pages: Vec<u32> = (0..c as u32 + c as u32 / 3).collect();
+    let mut calls = Vec::new();
+    for trace in pages.chunks(1000) {
+        let mut answers = vec![7; 4 * trace.len()];
+        calls.push(Call::Run { dir: dir.to_vec(), trace: trace.to_vec(), answers: answers.clone() });
+        run(dir, trace, &mut answers);
+    }
+    calls
+}
+
+fn one_run(random: &mut Random, dir: &[u32], c: usize) -> Call {
+    let length = match random.below(20) {
+        0..=1 => random.pick(&[0, 1, 999, 1000]),
+        2 => random.within(1001, 1100),
+        3..=8 => random.within(600, 1000),
+        _ => random.within(0, 6 * c.min(120)),
+    };
+    let trace = run_trace(random, &decode(dir), length, c);
+    let answers = match random.below(10) {
+        0 => 4 * length - random.within(0, 4 * length.min(1)),
+        1..=5 => 4 * length,
+        6 => random.below(4 * length + 1),
+        _ => 4 * length + random.within(1, 90),
+    };
+    Call::Run { dir: dir.to_vec(), trace, answers: random.words(answers) }
+}
+
+/// Pages now listed, new ones in a row, a window of pages asked for again, 0 and the largest.
+fn run_trace(random: &mut Random, d: &Directory, length: usize, c: usize) -> Vec<u32> {
+    let window = random.pick(&[c / 2 + 1, c, c + 1, 3 * c / 2 + 1, 2 * c, 3 * c]);
+    let (again, listed) = (random.pick(&[0, 20, 50, 80]), random.pick(&[0, 20, 50]));
+    let anywhere = random.word() / 2;
+    let start = random.pick(&[0, 500, 5000, anywhere]);
+    let before: Vec<u32> = [&d.t1, &d.t2, &d.b1, &d.b2].into_iter().flatten().map(|entry: &Entry| entry.page).collect();
+    let mut trace: Vec<u32> = Vec::with_capacity(length);
+    for at in 0..length {
+        let draw = random.below(100);
+        let page = match draw {
+            0 => 0,
+            1 => u32::MAX,
+            _ if draw < 2 + again && at > 0 => trace[at - 1 - random.below(at.min(window))],
+            _ if draw < 2 + again + listed && !before.is_empty() => random.pick(&before),
+            _ if again == 20 => start + random.below(window) as u32,
+            _ => start + at as u32,
+        };
+        trace.push(page);
+    }
+    trace
+}
+
+// ---- damaged directories ----
+
+fn damaged(random: &mut Random, count: usize) -> Vec<Call> {
+    (0..count)
+        .map(|_| {
+            let c = if random.chance(99) { random.within(1, 6) } else { random.within(7, 60) };
+            let mut dir = odd_directory(random, c);
+            damage(random, &mut dir, c as u32);
+            let page = any_page_word(random, &dir);
+            match random.below(3) {
+                0 => Call::Check { dir },
+                1 => Call::Request { dir, page },
+                _ => damaged_run(random, dir, page),
+            }
+        })
+        .collect()
+}
+
+fn any_page_word(random: &mut Random, dir: &[u32]) -> u32 {
+    if dir.len() > HEADER && random.chance(70) {
+        return dir[HEADER + 2 * random.below((dir.len() - HEADER).div_ceil(2))];
+    }
+    random.below(9) as u32
+}
+
+fn damaged_run(random: &mut Random, dir: Vec<u32>, page: u32) -> Call {
+    let length = if random.chance(1) { 1001 } else { random.below(6) };
+    let trace: Vec<u32> = (0..length).map(|_| random.pick(&[page, 1, 2, 3, 0])).collect();
+    let answers = if random.chance(80) { 4 * length } else { random.below(4 * length.min(900) + 1) };
+    Call::Run { dir, trace, answers: random.words(answers) }
+}
+
+/// One word, two words or the length changed.
+fn damage(random: &mut Random, dir: &mut Vec<u32>, c: u32) {
+    match random.below(20) {
+        0..=13 => damage_word(random, dir, c),
+        14..=16 => (0..2).for_each(|_| damage_word(random, dir, c)),
+        17 => dir.truncate(random.below(dir.len())),
+        18 => dir.truncate(dir.len() - random.within(1, 4)),
+        _ => dir.extend(vec![random.below(2) as u32; random.within(1, 8)]),
+    }
+}
+
+fn damage_word(random: &mut Random, dir: &mut [u32], c: u32) {
+    let at = if random.chance(45) { random.below(HEADER) } else { random.within(HEADER, dir.len() - 1) };
+    let word = dir[at];
+    let other = dir[HEADER + 2 * random.below(2 * c as usize)];
+    let near = [word.wrapping_add(1), word.wrapping_sub(1), word ^ 1, word ^ 2, word ^ 3, word ^ 4, word ^ (1 << 31)];
+    let known = [0, 1, 2, 3, 4, c, c + 1, 2 * c, 2 * c + 1, u32::MAX, u32::MAX - c, 1 << 31, 1024, 1025];
+    dir[at] = match random.below(4) {
+        0 | 1 => random.pick(&near),
+        2 => random.pick(&known),
+        _ if random.chance(70) => other,
+        _ => random.word(),
+    };
+}
+
+// ---- fresh ----
+
+fn fresh_calls(random: &mut Random, count: usize) -> Vec<Call> {
+    let sizes = [0, 1, 1, 2, 2, 3, 7, 12, 64, 1023, 1024, 1024, 1025, 1026, 1 << 30, 1 << 31, u32::MAX];
+    (0..count)
+        .map(|_| {
+            let policy = random.pick(&[0, 1, 1, 1, 2, 2, 2, 3, 257, 1 << 31, u32::MAX]);
+            let c = random.pick(&sizes);
+            let right = HEADER + 4 * c.min(1025) as usize;
+            let length = match random.below(10) {
+                0..=5 => right,
+                6 => right + random.within(1, 8),
+                7 => right - random.within(1, 8),
+                8 => random.within(0, 12),
+                _ => random.pick(&[0, 7, 8, 12, 16, 4103, 4104, 4105, 4200]),
+            };
+            Call::Fresh { policy, c, dir: random.words(length.min(4200)) }
+        })
+        .collect()
+}
+
+// ---- sheets ----
+
+fn sheets(random: &mut Random, count: usize) -> Vec<Call> {
+    (0..count)
+        .map(|_| {
+            let sheet = any_sheet(random);
+            if random.chance(45) {
+                let length = random.pick(&[1000, 1000, 1000, 1000, 1001, 1100, 999, 0]);
+                return Call::Read { sheet, pages: random.words(length) };
+            }
+            let lines = sheet.iter().filter(|&&byte| byte == b'\n').count();
+            let line = match random.below(12) {
+                0 => 0,
+                1 => u32::MAX,
+                2 => lines as u32,
+                3 => lines as u32 + 1,
+                4 => lines as u32 + 2,
+                5 => random.word(),
+                6 => random.within(1, lines + 1) as u32,
+                _ => random.within(1, lines.min(9) + 1) as u32,
+            };
+            Call::LookUp { sheet, line }
+        })
+        .collect()
+}
+
+fn any_sheet(random: &mut Random) -> Vec<u8> {
+    match random.below(100) {
+        0 => bids::long(random),
+        1 => bids::many_pages(random),
+        2..=11 => bids::letters(random),
+        _ => bids::any_short(random),
+    }
+}
+
+// ---- results ----
+
+fn results(random: &mut Random, count: usize) -> Vec<Call> {
+    (0..count)
+        .map(|_| {
+            let outcome = Outcome {
+                policy: random.pick(&[1, 1, 1, 1, 2, 2, 2, 2, 0, 3, 258, u32::MAX]),
+                pages: border(random) as u32,
+                requests: border(random) as u32,
+                hits: border(random) as u32,
+                misses: border(random) as u32,
+                evictions: border(random) as u32,
+                steps: border(random) as u32,
+                wait: wait(random),
+            };
+            let length = random.pick(&[256, 256, 256, 257, 400, 255, 0, 100]);
+            let out = (0..length).map(|_| random.word() as u8 | 1).collect();
+            Call::Write { outcome, out }
+        })
+        .collect()
+}
+
+/// A number at a border of digit counts, 32 bits.
+fn border(random: &mut Random) -> u64 {
+    let ten = 10u64.pow(random.below(10) as u32);
+    let (less, any) = (random.next() % ten, random.word() as u64);
+    random.pick(&[0, ten - 1, ten, ten + 1, less, u32::MAX as u64, any])
+}
+
+fn wait(random: &mut Random) -> u64 {
+    let ten = 10u64.pow(random.below(20) as u32);
+    let (less, any) = (random.next() % ten, random.next());
+    random.pick(&[0, ten - 1, ten, ten + 1, less, u64::MAX, u32::MAX as u64, 1 << 32, any])
+}
+
+// ---- programs ----
+
+/// Sheets for score and ledger: the worked one and the limits first.
+pub fn program_sheets(random: &mut Random, count: usize) -> Vec<Vec<u8>> {
+    let mut sheets = vec![bids::worked(), vec![], bids::of_length(16000), bids::of_length(16001)];
+    let mut over = bids::worked();
+    over.resize(40_000, b'\n');
+    sheets.extend([over, bids::of_pages(random, 1000), bids::of_pages(random, 1001), vec![b'='; 17_000], vec![b'\n'; 100_000]]);
+    while sheets.len() < count {
+        let sheet = match random.below(10) {
+            0 => bids::long(random),
+            1 => bids::many_pages(random),
+            2..=4 => bids::of_pages(random, 300),
+            5..=6 => bids::good(random),
+            _ => bids::any_short(random),
+        };
+        sheets.push(sheet);
+    }
+    sheets.truncate(count);
+    sheets
+}
+
+// ---- wire ----
+
+/// Streams that stop in the middle, or hold a call that cannot be read; and one of 100,000 calls.
+pub fn wire_streams(random: &mut Random, count: usize) -> Vec<Vec<u8>> {
+    let mut streams = vec![vec![], to_bytes(&[2, 0].repeat(100_000))];
+    let unreadable: [&[u32]; 18] = [
+        &[0], &[8], &[u32::MAX], &[1, 1, 1, 4201], &[2, 4201], &[2, u32::MAX], &[3, 1 << 30], &[4, 0, 1101], &[4, 0, 0, 4501],
+        &[5, 17001], &[5, 0, 1101], &[5, 1, 256], &[6, 2, 61, 266], &[6, 17001], &[7, 1, 1, 1, 1, 1, 1, 1, 1, 1, 401],
+        &[7, 1, 1, 1, 1, 1, 1, 1, 1, 1, 1, 256], &[1], &[3, 0],
+    ];
+    for stop in unreadable {
+        let mut words = few_calls(random);
+        words.extend_from_slice(stop);
+        if stop != [1] && stop != [3, 0] {
+            words.extend(vec![0; 20_000]);
+        }
+        streams.push(to_bytes(&words));
+    }
+    while streams.len() < count {
+        let mut bytes = to_bytes(&few_calls(random));
+        bytes.truncate(random.below(bytes.len()));
+        streams.push(bytes);
+    }
+    streams.truncate(count);
+    streams
+}
+
+/// One or two calls of each group.
+fn few_calls(random: &mut Random) -> Vec<u32> {
+    let mut words = Vec::new();
+    for group in &GROUPS {
+        let count = random.within(1, 2);
+        (group.draw)(random, count).iter().for_each(|call| put_call(call, &mut words));
+    }
+    words
+}
+
+#[cfg(test)]
+mod tests {
+    use super::*;
+    use crate::directory::check;
+
+    #[test]
+    fn odd_directories_are_sound_and_stay_so() {
+        let mut random = Random::new(9);
+        for call in odd(&mut random, 20_000) {
+            let Call::Request { mut dir, page } = call else { panic!() };
+            assert_eq!(check(&dir), 0);
+            let before = decode(&dir);
+            let (number, answer) = request(&mut dir, page);
+            let d = decode(&dir);
+            let listed = d.t1.iter().chain(d.t2.iter()).any(|entry| entry.page == page);
+            assert!(number == 0 && check(&dir) == 0 && listed);
+            let most = if before.policy == CAR { before.c + 1 } else { 2 * before.c + 1 };
+            assert!(answer.moves as i64 <= most);
+        }
+    }
+
+    #[test]
+    fn every_kind_of_answer_is_drawn() {
+        let mut random = Random::new(4);
+        let mut kinds = [[0; 5]; 3];
+        for call in requests(&mut random, 20_000) {
+            let Call::Request { mut dir, page } = call else { panic!() };
+            kinds[dir[0] as usize][request(&mut dir, page).1.kind as usize] += 1;
+        }
+        assert!(kinds[1..].iter().flatten().all(|&count| count > 400), "{kinds:?}");
+    }
+
+    /// How often each number is answered, by group and op.
+    #[test]
+    fn every_number_is_drawn() {
+        let mut drawn = std::collections::BTreeMap::new();
+        for group in &GROUPS {
+            let count = (group.cases / 50).min(4000);
+            for call in (group.draw)(&mut Random::new(6), count) {
+                let key = (group.name, crate::probe::op(&call), crate::probe::answer(call)[0]);
+                *drawn.entry(key).or_insert(0) += 1;
+            }
+        }
+        println!("{drawn:?}");
+        let wanted = [("runs", 4, "056"), ("damaged", 2, "01234"), ("damaged", 3, "01234"), ("damaged", 4, "012346"),
+            ("fresh", 1, "0123"), ("sheets", 5, "01256789"), ("sheets", 6, "078"), ("result", 7, "016")];
+        for (group, op, numbers) in wanted {
+            for number in numbers.bytes().map(|digit| (digit - b'0') as u32) {
+                assert!(drawn.contains_key(&(group, op, number)), "{group} {op} {number}");
+            }
+        }
+    }
+
+    #[test]
+    fn full_directories_of_the_largest_size_are_run() {
+        let (mut evicting, mut kinds) = (0, [0; 5]);
+        for call in runs(&mut Random::new(7), 600) {
+            let Call::Run { mut dir, trace, mut answers } = call else { panic!() };
+            let (number, tally) = run(&mut dir, &trace, &mut answers);
+            if number == 0 && dir[1] == LARGEST_C && tally.evictions > 0 {
+                evicting += 1;
+                (0..trace.len()).for_each(|at| kinds[answers[4 * at] as usize] += 1);
+            }
+        }
+        println!("{evicting} {kinds:?}");
+        assert!(evicting > 5 && kinds.iter().all(|&count| count > 0));
+    }
+
+    #[test]
+    fn every_call_can_be_read() {
+        let mut random = Random::new(5);
+        for group in &GROUPS {
+            for call in (group.draw)(&mut random, 300) {
+                let mut words = Vec::new();
+                put_call(&call, &mut words);
+                let bytes = to_bytes(&words);
+                let mut stream = crate::probe::Words::new(&bytes);
+                assert_eq!(crate::probe::read_call(&mut stream), Some(call));
+                assert_eq!(stream.bytes_left(), 0);
+            }
+        }
+    }
+}

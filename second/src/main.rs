@@ -1,0 +1,62 @@
+// The command line: the programs probe, score and ledger over standard input and output,
+// and compare, which drives another side's three programs and compares.
+
+mod bids;
+mod compare;
+mod directory;
+mod inputs;
+mod probe;
+mod programs;
+mod random;
+mod request;
+mod result;
+mod run;
+mod sheet;
+mod tell;
+
+use std::io::{BufWriter, Read, Write};
+use std::process::ExitCode;
+
+fn main() -> ExitCode {
+    let words: Vec<String> = std::env::args().skip(1).collect();
+    match words.first().map(String::as_str) {
+        Some("probe") => over_standard(probe::probe),
+        Some("score") => over_standard(|sheet, output| output.write_all(&programs::score(sheet))),
+        Some("ledger") => over_standard(|sheet, output| output.write_all(&programs::ledger(sheet))),
+        Some("compare") => compare_with(&words[1..]),
+        _ => usage(),
+    }
+}
+
+/// `compare --seed N --size small|full -- COMMAND...`; status 1 if anything differs.
+fn compare_with(words: &[String]) -> ExitCode {
+    let [seed_key, seed, size_key, size, dashes, command @ ..] = words else {
+        return usage();
+    };
+    let keys = [seed_key, size_key, dashes].map(String::as_str) == ["--seed", "--size", "--"];
+    let (Ok(seed), true, false) = (seed.parse::<u64>(), keys, command.is_empty()) else {
+        return usage();
+    };
+    if size != "small" && size != "full" {
+        return usage();
+    }
+    ExitCode::from(u8::from(compare::compare(seed, size == "full", command) > 0))
+}
+
+fn usage() -> ExitCode {
+    eprintln!("second probe|score|ledger, or second compare --seed N --size small|full -- COMMAND...");
+    ExitCode::from(2)
+}
+
+/// All of standard input through the program to standard output.
+fn over_standard(program: fn(&[u8], &mut dyn Write) -> std::io::Result<()>) -> ExitCode {
+    let mut input = Vec::new();
+    let read = std::io::stdin().read_to_end(&mut input);
+    let mut output = BufWriter::new(std::io::stdout().lock());
+    let written = program(&input, &mut output);
+    if read.is_ok() && written.is_ok() && output.flush().is_ok() {
+        ExitCode::SUCCESS
+    } else {
+        ExitCode::FAILURE
+    }
+}

@@ -1,0 +1,103 @@
+// The two programs over a bid sheet: score gives the result sheet or the two lines of a refusal,
+// ledger the same and then one line for each request.
+
+use crate::directory::{fresh, words_for};
+use crate::result::{write_result, Outcome, RESULT_BUFFER};
+use crate::run::{run, Tally};
+use crate::sheet::{read_sheet, Bid, PAGE_BUFFER};
+
+/// The sheet's pages served on a fresh directory.
+struct Scored {
+    bid: Bid,
+    pages: Vec<u32>,
+    answers: Vec<u32>,
+    tally: Tally,
+}
+
+/// The program score: the result sheet, or `refused=N` and `line=N`.
+pub fn score(sheet: &[u8]) -> Vec<u8> {
+    match serve_sheet(sheet) {
+        Ok(scored) => result_sheet(&scored),
+        Err(text) => text.into_bytes(),
+    }
+}
+
+/// The program ledger: as score, then a line for each request.
+pub fn ledger(sheet: &[u8]) -> Vec<u8> {
+    match serve_sheet(sheet) {
+        Ok(scored) => [result_sheet(&scored), request_lines(&scored).into_bytes()].concat(),
+        Err(text) => text.into_bytes(),
+    }
+}
+
+fn serve_sheet(sheet: &[u8]) -> Result<Scored, String> {
+    let mut pages = vec![0; PAGE_BUFFER];
+    let bid = read_sheet(sheet, &mut pages).map_err(|refused| refusal_lines(refused.number, refused.line))?;
+    pages.truncate(bid.count as usize);
+    let mut dir = vec![0; words_for(bid.c)];
+    let number = fresh(bid.policy, bid.c, &mut dir);
+    let mut answers = vec![0; 4 * pages.len()];
+    let (run_number, tally) = run(&mut dir, &pages, &mut answers);
+    assert!(number == 0 && run_number == 0, "a good sheet is served");
+    Ok(Scored { bid, pages, answers, tally })
+}
+
+fn refusal_lines(number: u32, line: u32) -> String {
+    format!("refused={number}\nline={line}\n")
+}
+
+fn result_sheet(scored: &Scored) -> Vec<u8> {
+    let tally = &scored.tally;
+    let outcome = Outcome {
+        policy: scored.bid.policy,
+        pages: scored.bid.c,
+        requests: tally.requests,
+        hits: tally.hits,
+        misses: tally.misses,
+        evictions: tally.evictions,
+        steps: tally.moves,
+        wait: tally.misses as u64 * scored.bid.cost as u64,
+    };
+    let mut out = vec![0; RESULT_BUFFER];
+    let (_, count) = write_result(&outcome, &mut out);
+    out.truncate(count as usize);
+    out
+}
+
+fn request_lines(scored: &Scored) -> String {
+    let mut text = String::new();
+    for (at, page) in scored.pages.iter().enumerate() {
+        let [kind, evicted, list, moves] = [0, 1, 2, 3].map(|word| scored.answers[4 * at + word]);
+        let request = at + 1;
+        text += &format!("request={request} page={page} kind={kind} evicted={evicted} list={list} moves={moves}\n");
+    }
+    text
+}
+
+#[cfg(test)]
+mod tests {
+    use super::*;
+
+    const WORKED: &[u8] = b"policy=car\npages=2\nmisscost=1,250\npage=1\npage=2\npage=1\npage=3\npage=2\npage=1\npage=4\npage=2\n";
+    const RESULT: &str = "policy=car\npages=2\nrequests=8\nhits=2\nmisses=6\nevictions=4\nsteps=6\nwait=7,500\n";
+
+    #[test]
+    fn the_worked_run() {
+        assert_eq!(String::from_utf8(score(WORKED)).unwrap(), RESULT);
+        let text = String::from_utf8(ledger(WORKED)).unwrap();
+        assert!(text.starts_with(RESULT));
+        let lines: Vec<&str> = text.lines().skip(8).collect();
+        assert_eq!(lines.len(), 8);
+        assert_eq!(lines[2], "request=3 page=1 kind=0 evicted=0 list=0 moves=0");
+        assert_eq!(lines[3], "request=4 page=3 kind=2 evicted=2 list=1 moves=2");
+        assert_eq!(lines[7], "request=8 page=2 kind=4 evicted=4 list=1 moves=1");
+    }
+
+    #[test]
+    fn refused_sheets() {
+        assert_eq!(score(b""), b"refused=8\nline=1\n");
+        assert_eq!(ledger(b"policy=car\npages=1025\n"), b"refused=2\nline=2\n");
+        assert_eq!(score(&[0; 16001]), b"refused=7\nline=0\n");
+        assert_eq!(ledger(&[0; 20000]), b"refused=7\nline=0\n");
+    }
+}

@@ -1,0 +1,168 @@
+// Tells a difference readably: the op, its arguments, the first differing word and what it means.
+// Long buffers are shortened, bytes are shown as text with escapes.
+
+use crate::directory::{check, decode, Directory, Entry, HEADER};
+use crate::probe::{op, Call};
+
+const SHOWN_WORDS: usize = 80;
+const SHOWN_BYTES: usize = 1200;
+
+/// A call whose answers differ; `more` when the other side goes on after the last answer.
+pub fn difference(call: &Call, ours: &[u32], theirs: Option<&[u32]>, more: bool) -> String {
+    let mut text = format!("  op {}: {}\n", op(call), arguments(call));
+    let Some(theirs) = theirs else {
+        return text + &format!("  ours:   {}\n  theirs: the stream stops before or within this answer", words(ours));
+    };
+    let first = (0..ours.len().max(theirs.len())).find(|&at| ours.get(at) != theirs.get(at));
+    if let Some(at) = first {
+        let shown = |side: &[u32]| side.get(at).map_or("nothing".to_string(), |word| word.to_string());
+        text += &format!("  word {at} ({}): ours {}, theirs {}\n", meaning(call, ours, at), shown(ours), shown(theirs));
+    }
+    if more {
+        text += "  theirs goes on after the last answer\n";
+    }
+    text + &format!("  ours:   {}\n  theirs: {}", words(ours), words(theirs))
+}
+
+/// Two outputs of score or ledger.
+pub fn texts(name: &str, sheet: &[u8], ours: &[u8], theirs: &[u8]) -> String {
+    let at = first_byte(ours, theirs);
+    format!(
+        "  {name}, sheet of {} bytes: {}\n  first differing byte {at}\n  ours:   {}\n  theirs: {}",
+        sheet.len(),
+        bytes(sheet),
+        bytes(ours),
+        bytes(theirs)
+    )
+}
+
+/// Two output streams of the probe.
+pub fn streams(input: &[u8], ours: &[u8], theirs: &[u8]) -> String {
+    let (at, from) = (first_byte(ours, theirs), input.len().saturating_sub(40));
+    format!(
+        "  stream of {} bytes, its last ones {:?}\n  first differing byte {at}; ours has {} bytes, theirs {}",
+        input.len(),
+        &input[from..],
+        ours.len(),
+        theirs.len()
+    )
+}
+
+fn first_byte(ours: &[u8], theirs: &[u8]) -> usize {
+    ours.iter().zip(theirs).take_while(|(one, two)| one == two).count()
+}
+
+fn arguments(call: &Call) -> String {
+    match call {
+        Call::Fresh { policy, c, dir } => format!("fresh policy={policy} c={c} dir={}", words(dir)),
+        Call::Check { dir } => format!("check {}", directory(dir)),
+        Call::Request { dir, page } => format!("request page={page} on {}", directory(dir)),
+        Call::Run { dir, trace, answers } => {
+            format!("run trace={} answers={} words, on {}", words(trace), answers.len(), directory(dir))
+        }
+        Call::Read { sheet, pages } => format!("read sheet of {} bytes {}, {} pages", sheet.len(), bytes(sheet), pages.len()),
+        Call::LookUp { sheet, line } => format!("look-up line={line} in sheet of {} bytes {}", sheet.len(), bytes(sheet)),
+        Call::Write { outcome, out } => format!("write {outcome:?} out of {} bytes", out.len()),
+    }
+}
+
+/// The lists if they can be read, else the bare words.
+fn directory(dir: &[u32]) -> String {
+    if check(dir) != 0 {
+        return format!("the directory {} (refused {})", words(dir), check(dir));
+    }
+    let Directory { policy, c, p, q, t1, t2, b1, b2 } = decode(dir);
+    format!("policy={policy} c={c} p={p} q={q} T1={} T2={} B1={} B2={}", list(&t1), list(&t2), list(&b1), list(&b2))
+}
+
+/// Pages from head to tail; `*` reference bit, `L` filter.
+fn list(entries: &[Entry]) -> String {
+    let shown = |entry: &Entry| {
+        let (bit, filter) = (if entry.referenced { "*" } else { "" }, if entry.long { "L" } else { "" });
+        format!("{}{bit}{filter}", entry.page)
+    };
+    format!("[{}]", entries.iter().map(shown).collect::<Vec<String>>().join(" "))
+}
+
+fn words(words: &[u32]) -> String {
+    if words.len() <= SHOWN_WORDS {
+        return format!("{words:?}");
+    }
+    format!("{:?} and {} more", &words[..SHOWN_WORDS], words.len() - SHOWN_WORDS)
+}
+
+fn bytes(bytes: &[u8]) -> String {
+    let shown = &bytes[..bytes.len().min(SHOWN_BYTES)];
+    format!("\"{}\"{}", shown.escape_ascii(), if shown.len() < bytes.len() { " and more" } else { "" })
+}
+
+/// What a word of an answer means.
+fn meaning(call: &Call, ours: &[u32], at: usize) -> String {
+    let (numbers, buffers): (&[&str], &[&str]) = match call {
+        Call::Fresh { .. } => (&["number"], &["dir"]),
+        Call::Check { .. } => (&["number"], &[]),
+        Call::Request { .. } => (&["number", "kind", "evicted page", "list", "hand moves"], &["dir"]),
+        Call::Run { .. } => (&["number", "requests", "hits", "misses", "evictions", "hand moves"], &["dir", "answers"]),
+        Call::Read { .. } => (&["number", "line", "policy", "c", "miss cost", "count"], &["pages"]),
+        Call::LookUp { .. } => (&["number", "start"], &["part"]),
+        Call::Write { .. } => (&["number", "count"], &["out"]),
+    };
+    if at < numbers.len() {
+        return numbers[at].to_string();
+    }
+    let mut from = numbers.len();
+    for name in buffers {
+        let length = ours[from] as usize;
+        if at == from {
+            return format!("length of {name}");
+        }
+        if at <= from + length {
+            return element(name, &ours[from + 1..=from + length], at - from - 1);
+        }
+        from += 1 + length;
+    }
+    "past the answer".to_string()
+}
+
+fn element(buffer: &str, elements: &[u32], at: usize) -> String {
+    match buffer {
+        "dir" if at < HEADER => ["policy", "c", "p", "q", "|T1|", "|T2|", "|B1|", "|B2|"][at].to_string(),
+        "dir" => entry_word(elements, at - HEADER),
+        "answers" => format!("{} of request {}", ["kind", "evicted page", "list", "hand moves"][at % 4], at / 4 + 1),
+        _ => format!("element {at} of {buffer}"),
+    }
+}
+
+/// Which list's entry, by our own lengths.
+fn entry_word(dir: &[u32], at: usize) -> String {
+    let what = ["page", "flags"][at % 2];
+    let mut entry = at / 2;
+    for (name, &length) in ["T1", "T2", "B1", "B2"].iter().zip(&dir[4..HEADER]) {
+        if entry < length as usize {
+            return format!("{what} of {name}[{entry}]");
+        }
+        entry -= length as usize;
+    }
+    format!("{what} of an unused entry")
+}
+
+#[cfg(test)]
+mod tests {
+    use super::*;
+
+    #[test]
+    fn meanings() {
+        let dir = vec![2, 1, 0, 0, 1, 0, 0, 0, 5, 2, 0, 0];
+        let call = Call::Request { dir: dir.clone(), page: 6 };
+        let ours = crate::probe::answer(call.clone());
+        assert_eq!(meaning(&call, &ours, 4), "hand moves");
+        assert_eq!(meaning(&call, &ours, 5), "length of dir");
+        assert_eq!(meaning(&call, &ours, 6 + 3), "q");
+        assert_eq!(meaning(&call, &ours, 6 + 9), "flags of T1[0]");
+        let mut theirs = ours.clone();
+        theirs[4] += 1;
+        let text = difference(&call, &ours, Some(&theirs), false);
+        assert!(text.contains("request page=6 on policy=2 c=1 p=0 q=0 T1=[5L] T2=[] B1=[] B2=[]"), "{text}");
+        assert!(text.contains("word 4 (hand moves): ours 2, theirs 3"), "{text}");
+    }
+}
