@@ -5,7 +5,8 @@ ghost use lib.ListN.{length};
 ghost use Rattle.scoring.specs.Promises.{Lent};
 
 fn print_requests(requests: usize, pages: &[u32], answers: &[u32], out: &mut [u8])
-    requires { ⌜ (requests ≤ 1000) × (1000 ≤ length (now pages)) × (4000 ≤ length (now answers)) × (256 ≤ length (now out)) ⌝ }
+    requires { ⌜ (requests ≤ 1000) × (1000 ≤ length (now pages)) ⌝ }
+    requires { ⌜ (4000 ≤ length (now answers)) × (256 ≤ length (now out)) ⌝ }
 {
     let mut i = 0;
     while i < requests {

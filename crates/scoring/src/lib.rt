@@ -30,7 +30,8 @@ fn score_bid(
     out: &mut [u8],
 ) -> Scored
     requires { ⌜ Good bid (now pages) (now dir) (now answers) (now out) ⌝ }
-    ensures { λ r. ⌜ ScoredBid bid (now (pages .entry)) (now (answers .entry)) r (now (answers .exit)) (now (out .exit)) ⌝ }
+    ensures { λ r. ⌜ ScoredBid bid (now (pages .entry)) (now (answers .entry))
+        r (now (answers .exit)) (now (out .exit)) ⌝ }
 {
     let words = 8 + 4 * bid.c as usize;
     let count = bid.count as usize;
@@ -69,7 +70,8 @@ pub fn score(
     out: &mut [u8],
 ) -> Scored
     requires { ⌜ Lent (now pages) (now dir) (now answers) (now out) ⌝ }
-    ensures { λ r. ⌜ ScoredSheet (now (sheet .entry)) (now (answers .entry)) r (now (pages .exit)) (now (answers .exit)) (now (out .exit)) ⌝ }
+    ensures { λ r. ⌜ ScoredSheet (now (sheet .entry)) (now (answers .entry))
+        r (now (pages .exit)) (now (answers .exit)) (now (out .exit)) ⌝ }
 {
     let bid = bid::read(sheet, pages);
     if bid.number != 0 {

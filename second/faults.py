@@ -1,0 +1,129 @@
+#!/usr/bin/env python3
+"""Plants one-line faults in copies of the second program, one after another, and compares the clean program with each.
+
+For each fault: copy, replace (the old text must stand exactly once), build, run
+`second compare --seed 1 --size full -- FAULTY`, record which groups found it and after how many cases.
+The table goes to target/faults/faults.md, the whole outputs to target/faults/logs/. Build the clean program first:
+`cargo build --release --target-dir ../target/second`. Arguments: numbers of faults, to run only those
+(the others keep what results.json holds); 0 writes only the table again."""
+import json, os, re, shutil, subprocess, sys, time
+
+CLEAN = os.path.dirname(os.path.abspath(__file__))
+HERE = os.path.join(os.path.dirname(CLEAN), "target", "faults")
+COPY = os.path.join(HERE, "copy")
+
+# name, file, old, new
+FAULTS = [
+    ("n_L for n_S in place, page in B1 (CART)", "request.rs", "max(1, n_s(d) / size(&d.b1))", "max(1, n_l(d) / size(&d.b1))"),
+    ("n_S for n_L in place, page in B2 (CART)", "request.rs", "max(1, n_l(d) / size(&d.b2))", "max(1, n_s(d) / size(&d.b2))"),
+    ("trim before evict", "request.rs", "let evicted = evict(d);\n    trim(d, page);", "trim(d, page);\n    let evicted = evict(d);"),
+    ("T2 victim to B1 (prose of line 34)", "request.rs", "d.b2.push(head); // line 34", "d.b1.push(head); // line 34"),
+    ("bit set to one when T1's head goes on (prose of line 29)", "request.rs", "head.referenced = false; // line 29, from T1 on to T2", "head.referenced = true; // line 29, from T1 on to T2"),
+    ("T1's L head with its bit set goes to T2, bit 0 (CART prose, rule 5)", "request.rs", "    if head.referenced {", "    if head.referenced && !(head.long && { head.referenced = false; true }) {"),
+    ("max(p+1, |B1|) for min", "request.rs", "size(&d.t1) >= min(d.p + 1, size(&d.b1))", "size(&d.t1) >= max(d.p + 1, size(&d.b1))"),
+    ("quotient rounded up (CAR, page in B1)", "request.rs", "max(1, size(&d.b2) / size(&d.b1))", "max(1, (size(&d.b2) + size(&d.b1) - 1) / size(&d.b1))"),
+    ("quotient rounded up (CART, page in B2)", "request.rs", "max(1, n_l(d) / size(&d.b2))", "max(1, (n_l(d) + size(&d.b2) - 1) / size(&d.b2))"),
+    ("wrong divisor, |B1| for |B2| (CAR; kept from 0)", "request.rs", "max(1, size(&d.b1) / size(&d.b2))", "max(1, size(&d.b1) / max(1, size(&d.b1)))"),
+    ("wrong divisor, |B1| for |B2| (CART; kept from 0)", "request.rs", "max(1, n_l(d) / size(&d.b2))", "max(1, n_l(d) / max(1, size(&d.b1)))"),
+    ("page taken out of B1 before the quotient (CAR; divides by 0 with one entry)", "request.rs", "d.p = min(d.p + max(1, size(&d.b2) / size(&d.b1)), d.c);\n        take_out(&mut d.b1, page);", "take_out(&mut d.b1, page);\n        d.p = min(d.p + max(1, size(&d.b2) / size(&d.b1)), d.c);"),
+    ("the same, the divisor kept from 0", "request.rs", "max(1, size(&d.b2) / size(&d.b1))", "max(1, size(&d.b2) / max(1, size(&d.b1) - 1))"),
+    ("page taken out of B1 before the quotient (CART, the divisor kept from 0)", "request.rs", "max(1, n_s(d) / size(&d.b1))", "max(1, n_s(d) / max(1, size(&d.b1) - 1))"),
+    ("q - 1 wrapping at 0", "request.rs", "max(d.q - 1, d.c - size(&d.t1)); // line 33", "max((d.q as u32).wrapping_sub(1) as i64, d.c - size(&d.t1)); // line 33"),
+    ("|T1| before the move at lowering q (line 33)", "request.rs", "max(d.q - 1, d.c - size(&d.t1)); // line 33", "max(d.q - 1, d.c - (size(&d.t1) + 1)); // line 33"),
+    ("page 0 treated as an empty entry (histories)", "directory.rs", "list.iter().any(|entry| entry.page == page)", "list.iter().any(|entry| entry.page == page && entry.page != 0)"),
+    ("page 0 treated as an empty entry (hit)", "request.rs", "        if entry.page == page {", "        if entry.page == page && entry.page != 0 {"),
+    ("> for >= at max(1, p) (CAR)", "request.rs", "if size(&d.t1) >= max(1, d.p) {\n            let mut head", "if size(&d.t1) > max(1, d.p) {\n            let mut head"),
+    ("> for >= at max(1, p) (CART)", "request.rs", "if size(&d.t1) >= max(1, d.p) {\n        let head", "if size(&d.t1) > max(1, d.p) {\n        let head"),
+    ("raise's 2c - |T1| without the subtraction", "request.rs", "min(d.q + 1, 2 * d.c - size(&d.t1))", "min(d.q + 1, 2 * d.c)"),
+    ("raise before the move (T2's head)", "request.rs", "        let mut head = d.t2.remove(0);\n        head.referenced = false;\n        d.t1.push(head);\n        moves += 1;\n        raise_q(d);", "        raise_q(d);\n        let mut head = d.t2.remove(0);\n        head.referenced = false;\n        d.t1.push(head);\n        moves += 1;"),
+    ("trim (CART) without \"or B2 is empty\"", "request.rs", "if size(&d.b1) > d.q || d.b2.is_empty() {", "if size(&d.b1) > d.q {"),
+    ("final demotion not counted (CART)", "request.rs", "    moves += 1;\n    if size(&d.t1)", "    if size(&d.t1)"),
+    ("comma dropped in the miss cost (1250 is taken as 1,250)", "sheet.rs", "    let comma = value.iter()", "    let at = value.len().saturating_sub(3); let with = [&value[..at], b\",\", &value[at..]].concat(); let value = if value.contains(&b',') { value } else { &with[..] }; let comma = value.iter()"),
+    ("leading zero accepted", "sheet.rs", "let leading_zero = value.len() > 1 && value[0] == b'0';", "let leading_zero = false;"),
+    ("second wrong line decides", "sheet.rs", ".map_err(|number| Refused { number, line })?;", ".map_err(|number| read_lines(sheet, place + text.len() + 1, line + 1).err().unwrap_or(Refused { number, line }))?;"),
+    ("line from 0", "sheet.rs", "read_lines(sheet, 0, 1)?;", "read_lines(sheet, 0, 1).map_err(|r| Refused { number: r.number, line: r.line - 1 })?;"),
+    ("look-up from the second `=`", "sheet.rs", "text.iter().position(|&byte| byte == b'=')", "(0..text.len()).filter(|&at| text[at] == b'=').take(2).last()"),
+    ("wait padded with blanks", "result.rs", "wait={},{:03}", "wait={},{:3}"),
+    ("5 before 8 at the 1,001st page line", "sheet.rs", "            let value = after_key(text, b\"page=\")?;\n            if listed.len() == MOST_PAGES {\n                return Err(5);\n            }", "            if listed.len() == MOST_PAGES {\n                return Err(5);\n            }\n            let value = after_key(text, b\"page=\")?;"),
+    ("7 before 6 in the sheet reader", "sheet.rs", "    if pages.len() < PAGE_BUFFER {", "    if pages.len() < PAGE_BUFFER && sheet.len() <= LONGEST_SHEET {"),
+    ("page words past the count set to zero", "sheet.rs", "    pages[..listed.len()].copy_from_slice(&listed);", "    pages.fill(0); pages[..listed.len()].copy_from_slice(&listed);"),
+    ("a refused run clears its answers", "run.rs", "        return (number, tally);", "        answers.fill(0); return (number, tally);"),
+    ("soundness without \"histories are empty if there is room\"", "directory.rs", "let histories_may_be = t1 + t2 == c || b1 + b2 == 0;", "let histories_may_be = true;"),
+    ("soundness with q up to 2c + 1", "directory.rs", "d.q <= 2 * d.c &&", "d.q <= 2 * d.c + 1 &&"),
+]
+
+
+def run(command, **more):
+    return subprocess.run(command, capture_output=True, text=True, **more)
+
+
+def plant(fault):
+    name, file, old, new = fault
+    shutil.copytree(os.path.join(CLEAN, "src"), os.path.join(COPY, "src"), dirs_exist_ok=True)
+    shutil.copy(os.path.join(CLEAN, "Cargo.toml"), COPY)
+    path = os.path.join(COPY, "src", file)
+    text = open(path).read()
+    if text.count(old) != 1:
+        sys.exit(f"{name}: the old text stands {text.count(old)} times")
+    open(path, "w").write(text.replace(old, new))
+    for other in os.listdir(os.path.join(COPY, "src")):
+        os.utime(os.path.join(COPY, "src", other))
+    built = run(["cargo", "build", "--release"], cwd=COPY)
+    if built.returncode != 0:
+        sys.exit(f"{name}: does not build\n{built.stderr}")
+
+
+def compared(number):
+    clean = os.path.join(os.path.dirname(HERE), "second/release/second")
+    faulty = os.path.join(COPY, "target/release/second")
+    begun = time.time()
+    done = run(["nice", clean, "compare", "--seed", "1", "--size", "full", "--", faulty])
+    with open(os.path.join(HERE, "logs", f"{number:02}.txt"), "w") as log:
+        log.write(done.stdout)
+    found = re.findall(r"^first difference of group (\w+) after (\d+) cases", done.stdout, re.M)
+    total = re.search(r"^seed=1 cases=(\d+) differences=(\d+)$", done.stdout, re.M)
+    return {"status": done.returncode, "found": found, "cases": int(total[1]), "differences": int(total[2]),
+            "seconds": round(time.time() - begun)}
+
+
+def code(text):
+    lines = [line.strip().replace("|", "\\|") for line in text.split("\n")]
+    fence = "``" if any("`" in line for line in lines) else "`"
+    return "<br>".join(f"{fence}{line}{fence}" for line in lines)
+
+
+def table(results):
+    rows = ["# Planted faults", "",
+            "Each row: one fault in a copy of `second/`, built, and `second compare --seed 1 --size full -- FAULTY` run by the clean",
+            "program (`second/faults.py`). \"Found by\" gives every group with a difference and after how many of its cases the first one came.",
+            "The last column counts as different also all later cases of a probe process in which the faulty copy ended early (a panic).",
+            "The whole outputs, with the first difference of each group, go to `target/faults/logs/`.", "",
+            "| No. | Fault | Old | New | Found by group, after cases | Differences of cases |", "|---|---|---|---|---|---|"]
+    for number, (name, file, old, new) in enumerate(FAULTS, 1):
+        got = results.get(str(number))
+        if not got:
+            continue
+        found = ", ".join(f"{group} {cases}" for group, cases in got["found"]) or "not found (harmless)"
+        share = f"{got['differences']} of {got['cases']}"
+        rows.append(f"| {number} | {name.replace('|', chr(92) + '|')} | {file}: {code(old)} | {code(new)} | {found} | {share} |")
+    return "\n".join(rows) + "\n"
+
+
+def main():
+    os.makedirs(os.path.join(HERE, "logs"), exist_ok=True)
+    os.makedirs(COPY, exist_ok=True)
+    kept = os.path.join(HERE, "results.json")
+    results = json.load(open(kept)) if os.path.exists(kept) else {}
+    wanted = [int(word) for word in sys.argv[1:]] or range(1, len(FAULTS) + 1)
+    if wanted == [0]:  # only the table again
+        wanted = []
+        open(os.path.join(HERE, "faults.md"), "w").write(table(results))
+    for number in wanted:
+        plant(FAULTS[number - 1])
+        results[str(number)] = compared(number)
+        print(number, FAULTS[number - 1][0], results[str(number)], flush=True)
+        json.dump(results, open(kept, "w"), indent=1)
+        open(os.path.join(HERE, "faults.md"), "w").write(table(results))
+
+
+main()
