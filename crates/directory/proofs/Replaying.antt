@@ -22,7 +22,7 @@ use Rattle.entries.proofs.Laid.{header}
 use Rattle.tally.specs.declared.Tally.{Tally}
 use Rattle.tally.specs.Note.{defined}
 use Rattle.tally.proofs.Tallies.{Within, noted-within}
-use Rattle.directory.specs.Orderly.{Ready, Stepped, RunThrough}
+use Rattle.directory.specs.Ready.{Ready, Stepped, RunThrough}
 use Rattle.directory.proofs.Serving.{words-held, decoded-sound}
 
 -- Four stores, one after another, from word at on.

@@ -16,7 +16,7 @@ use Rattle.tally.specs.declared.Tally.{Tally}
 use Rattle.tally.specs.Note.{defined}
 use Rattle.directory.specs.declared.Ran.{Ran}
 use Rattle.directory.specs.Promises.{Replayed}
-use Rattle.directory.specs.Orderly.{RunThrough}
+use Rattle.directory.specs.Ready.{RunThrough}
 use Rattle.directory.proofs.Serving.{decoded-sound}
 use Rattle.directory.proofs.Requesting.{accepted-sound}
 

@@ -27,7 +27,7 @@ use Rattle.entries.proofs.Reading.{told, cache-held}
 use Rattle.entries.proofs.Indexes.{index-has, index-lacks, has-append}
 use Rattle.entries.proofs.Rooms.{roomy}
 use Rattle.entries.proofs.Searching.{Found}
-use Rattle.directory.specs.Orderly.{Ready}
+use Rattle.directory.specs.Ready.{Ready}
 
 pub ready : (w : List ℕ) → sound w ≡ true → Ready w
 ready w is-sound =

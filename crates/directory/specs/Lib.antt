@@ -1,3 +1,3 @@
 -- What the public operations promise, and what the functions under them name.
 pub mod Promises
-pub mod Orderly
+pub mod Ready

@@ -11,10 +11,7 @@ ghost use Rattle.figures.specs.Run.{zeroTally};
 ghost use Rattle.entries.specs.Answers.{Tells};
 ghost use Rattle.tally.specs.Note.{defined, Small};
 ghost use Rattle.directory.specs.Promises.{Freshened, Checked, Requested, Replayed};
-ghost use Rattle.directory.specs.Orderly.{Ready, Stepped, RunThrough};
-
-mod soundness;
-
+ghost use Rattle.directory.specs.Ready.{Ready, Stepped, RunThrough};
 use entries::lists;
 use entries::search;
 

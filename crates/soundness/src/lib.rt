@@ -1,8 +1,8 @@
-// "A directory is sound when", in words whose number, policy and size are in order.
+// "A directory is sound when", in words whose number, policy and size are in order: that much directory::check has seen to.
 // Sizes come first: what is read after them is where it should be.
 ghost use mathlib.Core.Path.{_≡_};
 ghost use Rattle.figures.specs.Sound.{carSound, cartSound, sound};
-ghost use Rattle.directory.specs.Orderly.{Orderly, sizesFit, Held, entriesSound};
+ghost use Rattle.soundness.specs.Orderly.{Orderly, sizesFit, Held, entriesSound};
 use entries::lists;
 use entries::search;
 

@@ -8,11 +8,11 @@ use Rattle.figures.specs.Entry.{bits, total, differ}
 use Rattle.figures.specs.Directory.{Directory, listed}
 use Rattle.figures.specs.Words.{decode}
 use Rattle.figures.specs.Sound.{noneOf}
-use Rattle.directory.proofs.Tests.{alone}
-use Rattle.directory.proofs.Parts.{told, all-stand, history-stands}
+use Rattle.soundness.proofs.Tests.{alone}
+use Rattle.soundness.proofs.Parts.{told, all-stand, history-stands}
 use borrow.Author.Needs.{needs}
-use Rattle.directory.proofs.soundness.entries_sound.Statement.{statement}
-use Rattle.directory.proofs.soundness.entries_sound.Tie as tie
+use Rattle.soundness.proofs.entries_sound.Statement.{statement}
+use Rattle.soundness.proofs.entries_sound.Tie as tie
 
 shared-slice-read-wide : tie.Need-shared-slice-read-wide
 shared-slice-read-wide c = search needs

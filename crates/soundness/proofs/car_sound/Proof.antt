@@ -6,11 +6,11 @@ use Rattle.figures.specs.Directory.{listed}
 use Rattle.figures.specs.Words.{decode}
 use Rattle.figures.specs.Sound.{carSound}
 use Rattle.figures.proofs.Encoding.{reads}
-use Rattle.directory.proofs.Tests.{fails, agree}
-use Rattle.directory.proofs.Parts.{told, all-stand}
+use Rattle.soundness.proofs.Tests.{fails, agree}
+use Rattle.soundness.proofs.Parts.{told, all-stand}
 use borrow.Author.Needs.{needs}
-use Rattle.directory.proofs.soundness.car_sound.Statement.{statement}
-use Rattle.directory.proofs.soundness.car_sound.Tie as tie
+use Rattle.soundness.proofs.car_sound.Statement.{statement}
+use Rattle.soundness.proofs.car_sound.Tie as tie
 
 shared-slice-read-wide : tie.Need-shared-slice-read-wide
 shared-slice-read-wide c = search needs

@@ -7,11 +7,11 @@ use Rattle.figures.specs.Words.{decode}
 use Rattle.figures.specs.Sound.{cartSound}
 use Rattle.figures.proofs.Lists.{total-append}
 use Rattle.figures.proofs.Encoding.{reads}
-use Rattle.directory.proofs.Tests.{fails, agree}
-use Rattle.directory.proofs.Parts.{told, t2-stands, b1-stands, b2-stands, filters}
+use Rattle.soundness.proofs.Tests.{fails, agree}
+use Rattle.soundness.proofs.Parts.{told, t2-stands, b1-stands, b2-stands, filters}
 use borrow.Author.Needs.{needs}
-use Rattle.directory.proofs.soundness.cart_sound.Statement.{statement}
-use Rattle.directory.proofs.soundness.cart_sound.Tie as tie
+use Rattle.soundness.proofs.cart_sound.Statement.{statement}
+use Rattle.soundness.proofs.cart_sound.Tie as tie
 
 shared-slice-read-wide : tie.Need-shared-slice-read-wide
 shared-slice-read-wide c = search needs

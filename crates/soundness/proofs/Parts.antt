@@ -14,7 +14,7 @@ use Rattle.entries.specs.Stretches.{nameOf, startOf}
 use Rattle.entries.specs.Leaves.{OfEntries}
 use Rattle.entries.proofs.Laid.{Header, header, length-of-list}
 use Rattle.entries.proofs.Reading as Reading
-use Rattle.directory.specs.Orderly.{Held}
+use Rattle.soundness.specs.Orderly.{Held}
 
 -- In the words w the list l stands from word a on, and has n entries.
 pub record Stands (w : List ℕ) (a n : ℕ) (l : List Entry) : Type 0 where

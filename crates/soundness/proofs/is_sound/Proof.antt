@@ -6,12 +6,12 @@ use Prim.Native.Nat.{ℕ}
 use native.Mathlib.Omega.{arith}
 use borrow.Author.Tests.{not-true, not-false}
 use Rattle.figures.proofs.Encoding.{reads}
-use Rattle.directory.specs.Orderly.{sizesFit}
-use Rattle.directory.proofs.Tests.{denied}
-use Rattle.directory.proofs.Rules.{flagsKnown, restZero, sound-sizes, sound-flags, sound-zeros, held, sound-entries}
+use Rattle.soundness.specs.Orderly.{sizesFit}
+use Rattle.soundness.proofs.Tests.{denied}
+use Rattle.soundness.proofs.Rules.{flagsKnown, restZero, sound-sizes, sound-flags, sound-zeros, held, sound-entries}
 use borrow.Author.Needs.{needs}
-use Rattle.directory.proofs.soundness.is_sound.Statement.{statement}
-use Rattle.directory.proofs.soundness.is_sound.Tie as tie
+use Rattle.soundness.proofs.is_sound.Statement.{statement}
+use Rattle.soundness.proofs.is_sound.Tie as tie
 
 sizes-fit-requires : tie.Need-sizes-fit-requires
 sizes-fit-requires c κs = search needs

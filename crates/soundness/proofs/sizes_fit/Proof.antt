@@ -3,10 +3,10 @@ use mathlib.Core.Path.{refl, sym}
 use native.Mathlib.Omega.{arith}
 use borrow.Author.Tests.{eqb-true}
 use Rattle.figures.proofs.Encoding.{reads}
-use Rattle.directory.proofs.Tests.{fails, agree}
+use Rattle.soundness.proofs.Tests.{fails, agree}
 use borrow.Author.Needs.{needs}
-use Rattle.directory.proofs.soundness.sizes_fit.Statement.{statement}
-use Rattle.directory.proofs.soundness.sizes_fit.Tie as tie
+use Rattle.soundness.proofs.sizes_fit.Statement.{statement}
+use Rattle.soundness.proofs.sizes_fit.Tie as tie
 
 shared-slice-read-wide : tie.Need-shared-slice-read-wide
 shared-slice-read-wide c = search needs

@@ -8,8 +8,8 @@ use lib.ListN.{take, drop}
 use Rattle.figures.specs.Words.{used, unused}
 use Rattle.figures.specs.Sound.{allAtMost, flagWords, sound}
 use Rattle.figures.proofs.Encoding.{reads, shaped}
-use Rattle.directory.proofs.Tests.{agree}
-use Rattle.directory.specs.Orderly.{Orderly, sizesFit, Held, entriesSound}
+use Rattle.soundness.proofs.Tests.{agree}
+use Rattle.soundness.specs.Orderly.{Orderly, sizesFit, Held, entriesSound}
 
 abbrev pub flagsKnown : List ℕ → Bool
 flagsKnown w = allAtMost 3 (flagWords (take (used w) (drop 8 w)))

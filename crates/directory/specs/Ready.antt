@@ -1,0 +1,35 @@
+-- What the functions under a request and a run need of the words that they are given, and what they make of them.
+-- They are internal: the public operations ask for nothing.
+use mathlib.Core.Path.{_≡_}
+use mathlib.Core.Bool.{true}
+use mathlib.Core.List.{List, _++_}
+use Prim.Native.Nat.{ℕ, _+_, _*_, _≤_}
+use lib.ListN.{take, drop}
+use Rattle.figures.specs.Choice.{∣_∣}
+use Rattle.figures.specs.Request.{answer, request}
+use Rattle.figures.specs.Run.{run}
+use Rattle.tally.specs.declared.Tally.{Tally}
+use Rattle.tally.specs.Note.{defined, notedOf}
+use Rattle.figures.specs.Words.{encode, decode, size, nT1, nT2, nB1, nB2}
+use Rattle.figures.specs.Sound.{sound}
+
+-- The words of a sound directory, with the numbers that tell where its lists are.
+pub record Ready (w : List ℕ) : Type 0 where
+  pub is-sound : sound w ≡ true
+  pub length-is : ∣ w ∣ ≡ 8 + 4 * size w
+  pub c-most : size w ≤ 1024
+  pub cache-fits : nT1 w + nT2 w ≤ size w
+  pub history-fits : nB1 w + nB2 w ≤ size w
+
+-- One request of a run: the tally, the words and the answers after it, from those before it.
+pub record Stepped (page : ℕ) (w answers : List ℕ) (at : ℕ) (t : Tally) (r : Tally) (w′ answers′ : List ℕ) : Type 0 where
+  pub tally-is : r ≡ notedOf t (request page (decode w) .kind) (request page (decode w) .moves)
+  pub words-are : w′ ≡ encode (request page (decode w) .dir)
+  pub answers-are : answers′ ≡ take at answers ++ (answer (request page (decode w)) ++ drop (at + 4) answers)
+  pub ready-again : Ready w′
+
+-- A run of a sound directory: the tally, the words and the answers after it.
+pub record RunThrough (w trace answers : List ℕ) (r : Tally) (w′ answers′ : List ℕ) : Type 0 where
+  pub tally-is : defined r ≡ run trace (decode w) .tally
+  pub words-are : w′ ≡ encode (run trace (decode w) .dir)
+  pub answers-are : answers′ ≡ run trace (decode w) .answers ++ drop ∣ run trace (decode w) .answers ∣ answers
