@@ -25,7 +25,8 @@ use Rattle.bid.specs.declared.Listed.the-variants as Listed
 
 -- What the line comes to, whatever its value means.
 abbrev pub valueUnder : List ℕ → (List ℕ → Value) → Keyed → Lines.Reading
-valueUnder s meant (Keyed.Value start end) = before (meant (take (end - start) (drop start s))) (lines (drop (end + 1) s))
+valueUnder s meant (Keyed.Value start end) =
+    before (meant (take (end - start) (drop start s))) (lines (drop (end + 1) s))
 valueUnder s meant Keyed.NoSuchLine = bad noSuchLine
 
 abbrev pub Inside : List ℕ → ℕ → Keyed → Type 0

@@ -79,7 +79,8 @@ fn fill(sheet: &[u8], start: usize, pages: &mut [u32])
 // The lines from the top: the first that is wrong decides.
 fn read_lines(sheet: &[u8], pages: &mut [u32]) -> Bid
     requires { ⌜ 1000 ≤ length (now pages) ⌝ }
-    ensures { λ r. ⌜ Answers (answer (inOrder (lines (now (sheet .entry)))) (now (pages .entry))) r (now (pages .exit)) ⌝ }
+    ensures { λ r. ⌜ Answers (answer (inOrder (lines (now (sheet .entry)))) (now (pages .entry)))
+        r (now (pages .exit)) ⌝ }
 {
     let policy_read = keyed_lines::policy_line(sheet, 0);
     let Reading::Good(policy, second) = policy_read else {

@@ -1,4 +1,4 @@
-// The ledger: what the scoring program prints for the sheet on standard input, and then a line for each request, in order.
+// The ledger: what the scoring program prints for the sheet on standard input, then a line for each request, in order.
 // The bytes are scoring's, which is proved; here they are only handed on.
 ghost use Prim.Native.Nat.{_≤_};
 ghost use lib.ListN.{length};

@@ -83,7 +83,8 @@ fn refused(number: u32) -> Span
 // The value of the line from `at` to its line feed at `end`: what follows the first `=`.
 fn value_in(sheet: &[u8], at: usize, end: usize) -> Span
     requires { ⌜ (at ≤ end) × (end ≤ length (now sheet)) ⌝ }
-    ensures { λ r. ⌜ SpanOf (now (sheet .entry)) (foundAt (valueIn at (take (end - at) (drop at (now (sheet .entry)))))) r ⌝ }
+    ensures { λ r. ⌜ SpanOf (now (sheet .entry))
+        (foundAt (valueIn at (take (end - at) (drop at (now (sheet .entry)))))) r ⌝ }
 {
     let equals = at + text::place_of(&sheet[at..end], b'=');
     if equals < end {

@@ -1,4 +1,5 @@
-// The calls on a directory. Each reads its call whole, makes it and sends what it gave; false where the call cannot be read.
+// The calls on a directory. Each reads its call whole, makes it and sends what it gave.
+// False where the call cannot be read.
 use crate::wire;
 use crate::wire::Word;
 

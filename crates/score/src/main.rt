@@ -1,5 +1,5 @@
-// The scoring program: a bid sheet from standard input, the result sheet or the two lines of a refusal to standard output.
-// What it prints is scoring::score's, which is proved; a sheet longer than one byte too many is not read further.
+// The scoring program: a bid sheet from standard input, its result sheet or two lines of a refusal to standard output.
+// What it prints is scoring::score's, which is proved. Of a sheet that is too long, one byte too many is read.
 ghost use Rattle.scoring.specs.Promises.{Lent};
 
 fn print_score(

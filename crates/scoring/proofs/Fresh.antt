@@ -49,11 +49,15 @@ module _ {policy c : ℕ} {w trace answers : List ℕ} (h : Fitting policy c w t
   unfolding onCheck
   sound-words =
       let exact = words-fit d (omega arith) in
-      sym (check-sound (encode d) (omega (arith, exact)) policy-known size-known exact (fresh-is-sound policy c policy-known size-known) .number-is)
+      let is-sound = fresh-is-sound policy c policy-known size-known in
+      sym (check-sound (encode d) (omega (arith, exact)) policy-known size-known exact is-sound .number-is)
 
   pub run-accepted : onRun (encode (fresh policy c)) trace answers ≡ servedRun (run trace (fresh policy c)) answers
   unfolding onRun runNumber
-  run-accepted = rw (sound-words, le-ltb 1000 ∣ trace ∣ (h .few), le-ltb ∣ answers ∣ (4 * ∣ trace ∣) (h .room), decode-encode) refl
+  run-accepted =
+      let few = le-ltb 1000 ∣ trace ∣ (h .few) in
+      let room = le-ltb ∣ answers ∣ (4 * ∣ trace ∣) (h .room) in
+      rw (sound-words, few, room, decode-encode) refl
 
   pub ran-fresh : {number : ℕ} {w′ w″ answers′ : List ℕ} {r : Ran} → Freshened policy c w number w′
       → Replayed w′ trace answers r w″ answers′ → RanFresh policy c trace answers (r .tally) answers′

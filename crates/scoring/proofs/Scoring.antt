@@ -60,7 +60,8 @@ module _ {b : Bid} {pages dir answers out : List ℕ} (h : Good b pages dir answ
       → ScoredBid b pages answers (record { count = r .count; requests = b .count }) answers′ out′
   unfolding printed
   bid-scored {t} {out′ = out′} {r} ran wrote =
-      let front = sheet-in-front (handed b t) out wrote (known-policy (b .policy) (h .policy-known .0) (h .policy-known .1)) (h .lent .out-fits) in
+      let known = known-policy (b .policy) (h .policy-known .0) (h .policy-known .1) in
+      let front = sheet-in-front (handed b t) out wrote known (h .lent .out-fits) in
       record {
         prints = subst (λ x. InFront (resultSheet (outcome (meant b pages) x)) (r .count) out′) (ran .tally-is) front;
         requests-are = refl;
@@ -69,7 +70,8 @@ module _ {b : Bid} {pages dir answers out : List ℕ} (h : Good b pages dir answ
 
 module _ (s pages dir answers out : List ℕ) (lent : Lent pages dir answers out) (b : Bid) (pages′ : List ℕ)
     (read : BidRead s pages b pages′) where
-  pub refusal-scored : {out′ : List ℕ} {r : Written} → (b .number ≡ 0 → ⊥) → WroteRefusal (b .number) (b .line) out r out′
+  pub refusal-scored : {out′ : List ℕ} {r : Written} → (b .number ≡ 0 → ⊥)
+      → WroteRefusal (b .number) (b .line) out r out′
       → ScoredSheet s answers (record { count = r .count; requests = 0 }) pages′ answers out′
   unfolding printed scored
   refusal-scored {out′} {r} some wrote =

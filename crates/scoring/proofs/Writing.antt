@@ -19,14 +19,15 @@ use Rattle.result.specs.declared.Written.{Written}
 use Rattle.result.specs.Promises.{defined, Wrote, onWriteText, WroteSheet}
 use Rattle.scoring.specs.Promises.{InFront}
 
-in-front : (text out : List ℕ) {out′ : List ℕ} {count : ℕ} → count ≡ ∣ text ∣ → out′ ≡ over text out → InFront text count out′
+in-front : (text out : List ℕ) {out′ : List ℕ} {count : ℕ} → count ≡ ∣ text ∣ → out′ ≡ over text out
+    → InFront text count out′
 in-front text out {count = count} many is = record {
   text-is = ap (take count) is ∙ take-at text (drop ∣ text ∣ out) count (sym many);
   count-fits = omega (arith, ap ∣_∣ is, length-append text (drop ∣ text ∣ out));
 }
 
-pub sheet-in-front : (o : Outcome) (out : List ℕ) {out′ : List ℕ} {r : Written} → WroteSheet o out r out′ → knownPolicy (o .policy) ≡ true
-    → 256 ≤ ∣ out ∣ → InFront (resultSheet (defined o)) (r .count) out′
+pub sheet-in-front : (o : Outcome) (out : List ℕ) {out′ : List ℕ} {r : Written} → WroteSheet o out r out′
+    → knownPolicy (o .policy) ≡ true → 256 ≤ ∣ out ∣ → InFront (resultSheet (defined o)) (r .count) out′
 unfolding onWrite
 sheet-in-front o out h known room =
     in-front

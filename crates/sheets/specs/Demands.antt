@@ -26,7 +26,7 @@ WaitsReadBack = (wait : ℕ) → wait < 2 ^ 64 → WaitReadBack wait
 abbrev pub CostReadBack : Type 0
 CostReadBack = (cost : ℕ) → cost < 10000000 → missCost (milliseconds cost) ≡ means cost
 
--- "The result sheet is written into at least 256 lent bytes": it fits, whatever 32-bit numbers and 64-bit wait. [Lengths]
+-- "The result sheet is written into at least 256 lent bytes": it fits, whatever the numbers. [Lengths]
 pub record Fits (r : Outcome) : Type 0 where
   pub pages-fit : r .pages < 2 ^ 32
   pub requests-fit : r .requests < 2 ^ 32

@@ -1,4 +1,4 @@
-// "A directory is sound when", in words whose number, policy and size are in order: that much directory::check has seen to.
+// "A directory is sound when", in words whose number, policy and size are in order, which directory::check sees to.
 // Sizes come first: what is read after them is where it should be.
 ghost use mathlib.Core.Path.{_≡_};
 ghost use Rattle.figures.specs.Sound.{carSound, cartSound, sound};

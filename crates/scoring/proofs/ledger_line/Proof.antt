@@ -64,8 +64,13 @@ same-length c = search needs
 
 returns : tie.Need-returns
 returns c =
-    let a = c .before .before .before .before .before .before .before .before .before .before .before .before .args in
-    text-in-front (ledgerLine (a .i) (a .pages .now) (a .answers .now)) (a .out .now) (c .before .before .write-request .ensures) (c .before .before .before .before .before .before .before .before .before .before .before .before .pre .out-fits)
+    let start = c .before .before .before .before .before .before .before .before .before .before .before .before in
+    let a = start .args in
+    text-in-front
+    (ledgerLine (a .i) (a .pages .now) (a .answers .now))
+    (a .out .now)
+    (c .before .before .write-request .ensures)
+    (start .pre .out-fits)
 
 pub ledger-line-spec : {M : Type 1} → statement M
 ledger-line-spec =

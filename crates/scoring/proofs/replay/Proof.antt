@@ -17,7 +17,10 @@ same-length-2 : tie.Need-same-length-2
 same-length-2 c = search needs
 
 returns : tie.Need-returns
-returns c = ran-fresh (c .before .before .before .before .before .before .before .before .before .before .before .before .before .before .before .pre) (c .before .before .before .before .before .before .before .before .before .before .fresh .ensures) (c .before .before .before .before .before .run .ensures)
+returns c =
+    let ran = c .before .before .before .before .before in
+    let made = ran .before .before .before .before .before in
+    ran-fresh (made .before .before .before .before .before .pre) (made .fresh .ensures) (ran .run .ensures)
 
 pub replay-spec : {M : Type 1} → statement M
 replay-spec = tie.close (tie.spec fresh-requires run-requires same-length same-length-2 returns)

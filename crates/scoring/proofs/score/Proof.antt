@@ -24,36 +24,41 @@ same-length-2 c = search needs
 
 returns : tie.Need-returns
 returns c =
-    let a = c .before .before .before .before .before .before .before .before .before .before .before .before .before .before .before .args in
+    let r = c .before .before .before .before .before .before .before .before in
+    let start = r .before .before .before .before .before .before .before in
+    let a = start .args in
     refusal-scored
     (a .sheet .now)
     (a .pages .now)
     (a .dir .now)
     (a .answers .now)
     (a .out .now)
-    (c .before .before .before .before .before .before .before .before .before .before .before .before .before .before .before .pre)
+    (start .pre)
     _
     _
-    (c .before .before .before .before .before .before .before .before .read .ensures)
+    (r .read .ensures)
     (c .before .before .before .before .if1 .taken)
     (c .before .before .write-refusal .ensures)
 
 score-bid-requires : tie.Need-score-bid-requires
 score-bid-requires c κs =
-    let a = c .before .before .before .before .before .before .before .before .before .before .before .before .before .before .before .args in
-    let g = c .before .before .before .before .before .before .before .pages .given in
+    let read = c .before .before .before .before .before .before .before in
+    let r = read .before in
+    let start = r .before .before .before .before .before .before .before in
+    let a = start .args in
+    let same = read .pages .given in
     good-bid
     (a .sheet .now)
     (a .pages .now)
     (a .dir .now)
     (a .answers .now)
     (a .out .now)
-    (c .before .before .before .before .before .before .before .before .before .before .before .before .before .before .before .pre)
+    (start .pre)
     _
     _
-    (c .before .before .before .before .before .before .before .before .read .ensures)
+    (r .read .ensures)
     (c .before .before .before .before .if1 .left)
-    (omega (arith, g))
+    (omega (arith, same))
 
 same-length-3 : tie.Need-same-length-3
 same-length-3 c = search needs
@@ -69,19 +74,22 @@ same-length-6 c = search needs
 
 returns-2 : tie.Need-returns-2
 returns-2 c =
-    let a = c .before .before .before .before .before .before .before .before .before .before .before .before .before .before .before .before .before .before .before .before .before .before .args in
+    let scored = c .before .before .before .before .before .before in
+    let r = scored .before .before .before .before .before .before .before .before .before in
+    let start = r .before .before .before .before .before .before .before in
+    let a = start .args in
     sheet-scored
     (a .sheet .now)
     (a .pages .now)
     (a .dir .now)
     (a .answers .now)
     (a .out .now)
-    (c .before .before .before .before .before .before .before .before .before .before .before .before .before .before .before .before .before .before .before .before .before .before .pre)
+    (start .pre)
     _
     _
-    (c .before .before .before .before .before .before .before .before .before .before .before .before .before .before .before .read .ensures)
-    (c .before .before .before .before .before .before .before .before .before .before .before .if1 .left)
-    (c .before .before .before .before .before .before .score-bid .ensures)
+    (r .read .ensures)
+    (scored .before .before .before .before .before .if1 .left)
+    (scored .score-bid .ensures)
 
 pub score-spec : {M : Type 1} → statement M
 score-spec =

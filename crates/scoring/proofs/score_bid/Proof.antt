@@ -25,13 +25,16 @@ cast-count : tie.Need-cast-count
 cast-count c = search needs
 
 slice-aggregate-replay : tie.Need-slice-aggregate-replay
-slice-aggregate-replay c = let h = c .before .before .before .before .before .before .before .pre in sym (length-take-le _ _ (omega (arith, h .few, h .lent .pages-fit)))
+slice-aggregate-replay c =
+    let h = c .before .before .before .before .before .before .before .pre in sym (length-take-le _ _ (omega (arith, h .few, h .lent .pages-fit)))
 
 slice-relend-prefix-replay : tie.Need-slice-relend-prefix-replay
 slice-relend-prefix-replay c = search needs
 
 slice-aggregate-replay-2 : tie.Need-slice-aggregate-replay-2
-slice-aggregate-replay-2 c = let h = c .before .before .before .before .before .before .before .before .pre in sym (length-take-le _ _ (omega (arith, h .size-known .1, h .lent .dir-fits)))
+slice-aggregate-replay-2 c =
+    let h = c .before .before .before .before .before .before .before .before .pre in
+    sym (length-take-le _ _ (omega (arith, h .size-known .1, h .lent .dir-fits)))
 
 replay-requires : tie.Need-replay-requires
 replay-requires c κs = fitting (c .before .before .before .before .before .before .before .before .before .pre)
@@ -60,7 +63,10 @@ same-length-3 : tie.Need-same-length-3
 same-length-3 c = search needs
 
 returns : tie.Need-returns
-returns c = bid-scored (c .before .before .before .before .before .before .before .before .before .before .before .before .before .before .before .before .before .before .before .before .pre) (c .before .before .before .before .before .before .before .before .before .before .replay .ensures) (c .before .before .write .ensures)
+returns c =
+    let written = c .before .before in
+    let replayed = written .before .before .before .before .before .before .before .before in
+    bid-scored (replayed .before .before .before .before .before .before .before .before .before .before .pre) (replayed .replay .ensures) (written .write .ensures)
 
 pub score-bid-spec : {M : Type 1} → statement M
 score-bid-spec =
