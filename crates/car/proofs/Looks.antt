@@ -13,7 +13,7 @@ use Rattle.figures.specs.Words.{encode, decode}
 use Rattle.figures.specs.Hand.{Hand, listWord, turn, demote, again, stop, last, next}
 use Rattle.figures.specs.Car.{look, choose}
 use Rattle.entries.specs.Stretches.{Room, nameOf, startOf}
-use Rattle.figures.proofs.Encoding.{decoded}
+use Rattle.laws.proofs.Encoding.{decoded}
 use Rattle.entries.proofs.Laid.{flags-cleared}
 use Rattle.entries.specs.Leaves.{HeadMoved}
 use Rattle.entries.proofs.Heads.{HeadAt}

@@ -11,7 +11,7 @@ use Rattle.figures.specs.Directory.{Directory, unit, T1, T2, B1, B2, t1AtTarget
 use Rattle.figures.specs.Words.{flags, nT1, nT2, decode}
 use Rattle.figures.specs.Hand.{Hand, withCounts, demote}
 use Rattle.figures.specs.Cart.{demotion}
-use Rattle.figures.proofs.Encoding.{decoded}
+use Rattle.laws.proofs.Encoding.{decoded}
 use Rattle.entries.specs.Stretches.{startOf}
 use Rattle.entries.proofs.Laid.{header}
 use Rattle.entries.specs.Leaves.{HeadMoved}

@@ -11,9 +11,9 @@ use Rattle.figures.specs.Words.{nT1, nT2, decode}
 use Rattle.figures.specs.Sound.{cart}
 use Rattle.figures.specs.Hand.{Hand, Look, Ends}
 use Rattle.figures.specs.Cart.{cost, firstLook, secondLook, firstPass, secondPass, counted}
-use Rattle.figures.proofs.Lists.{total-append, total-at-most, bits-at-most-one, short-and-long}
-use Rattle.figures.proofs.Repeats.{ends-once}
-use Rattle.figures.proofs.Cart.{cost-at-most-two, cart-stops}
+use Rattle.laws.proofs.Lists.{total-append, total-at-most, bits-at-most-one, short-and-long}
+use Rattle.laws.proofs.Repeats.{ends-once}
+use Rattle.laws.proofs.Cart.{cost-at-most-two, cart-stops}
 use Rattle.entries.specs.Leaves.{OfEntries}
 use Rattle.entries.specs.Stretches.{ofFlag}
 use Rattle.entries.proofs.Laid.{header}

@@ -12,8 +12,8 @@ use Rattle.figures.specs.Directory.{Directory, unit, Name, T1, T2, withList, to
 use Rattle.figures.specs.Words.{flags, encode, decode}
 use Rattle.figures.specs.Hand.{Hand, Look, again, stop}
 use Rattle.figures.specs.Cart.{raise, lower, becomesLong, lookT1, lookT2, firstLook, secondLook}
-use Rattle.figures.proofs.Lists.{entryOf, length-tail}
-use Rattle.figures.proofs.Encoding.{decoded, one-to-one}
+use Rattle.laws.proofs.Lists.{entryOf, length-tail}
+use Rattle.laws.proofs.Encoding.{decoded, one-to-one}
 use Rattle.entries.specs.Leaves.{HeadMoved}
 use Rattle.cart.specs.Passing.{headFlags, Passing, Holds, Turned, Looked}
 use Rattle.cart.proofs.Accounts.{Accounts, accounts, passing, t2-to-t1, t1-round, t1-to-t2, raise-keeps, lower-keeps}

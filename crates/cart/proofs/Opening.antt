@@ -5,8 +5,8 @@ use Prim.Native.Nat.{ℕ}
 use native.Mathlib.Omega.{arith}
 use Rattle.figures.specs.Words.{decode}
 use Rattle.figures.specs.Cart.{evict}
-use Rattle.figures.proofs.Lists.{short-and-long}
-use Rattle.figures.proofs.Cart.{cart-opens, cart-opened, cart-counts}
+use Rattle.laws.proofs.Lists.{short-and-long}
+use Rattle.laws.proofs.Cart.{cart-opens, cart-opened, cart-counts}
 use Rattle.entries.specs.Stretches.{Room}
 use Rattle.entries.proofs.Laid.{header}
 use Rattle.entries.proofs.Rooms.{freed}

@@ -11,7 +11,7 @@ use Rattle.figures.specs.Directory.{Directory, unit, Name, T1, B1, B2, withList
 use Rattle.figures.specs.Words.{encode, nT1, nT2, nB1, nB2}
 use Rattle.figures.specs.Hand.{Hand}
 use Rattle.figures.specs.Cart.{raise, placeB1, backFromB2, placeB2}
-use Rattle.figures.proofs.Lists.{length-tail, length-without}
+use Rattle.laws.proofs.Lists.{length-tail, length-without}
 use Rattle.entries.specs.Stretches.{Room}
 use Rattle.entries.proofs.Laid.{with-p}
 use Rattle.entries.proofs.Rooms.{roomy}

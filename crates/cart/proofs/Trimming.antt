@@ -13,8 +13,8 @@ use Rattle.figures.specs.Entry.{Entry, dropHead}
 use Rattle.figures.specs.Directory.{Directory, B1, B2, listOf, withList, cached, remembered}
 use Rattle.figures.specs.Words.{encode, nB1, nB2}
 use Rattle.figures.specs.Cart.{trim}
-use Rattle.figures.proofs.Lists.{by-tests}
-use Rattle.figures.proofs.Cart.{cart-trims}
+use Rattle.laws.proofs.Lists.{by-tests}
+use Rattle.laws.proofs.Cart.{cart-trims}
 use Rattle.entries.specs.Stretches.{nameOf}
 use Rattle.entries.proofs.Rooms.{Fits}
 use Rattle.cart.specs.Passing.{oldestList}

@@ -8,7 +8,7 @@ use Rattle.figures.specs.Directory.{Directory, fresh}
 use Rattle.figures.specs.Words.{encode}
 use Rattle.figures.specs.Sound.{car, cart}
 use Rattle.figures.specs.Demands.{movesEach, owed}
-use Rattle.figures.proofs.Encoding.{decode-encode}
+use Rattle.laws.proofs.Encoding.{decode-encode}
 use Rattle.directory.specs.declared.Ran.{Ran}
 use Rattle.directory.specs.Promises.{Replayed}
 

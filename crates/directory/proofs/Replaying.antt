@@ -15,9 +15,9 @@ use Rattle.figures.specs.Request.{Served, answer, request}
 use Rattle.figures.specs.Run as Run
 use Rattle.figures.specs.Run.{Ran, zeroTally, before, runFrom, run}
 use Rattle.figures.specs.Demands.{mostMoves}
-use Rattle.figures.proofs.Lists.{either}
-use Rattle.figures.proofs.Encoding.{decode-encode}
-use Rattle.figures.proofs.Moves.{request-moves-at-most}
+use Rattle.laws.proofs.Lists.{either}
+use Rattle.laws.proofs.Encoding.{decode-encode}
+use Rattle.laws.proofs.Moves.{request-moves-at-most}
 use Rattle.entries.proofs.Laid.{header}
 use Rattle.tally.specs.declared.Tally.{Tally}
 use Rattle.tally.specs.Note.{defined}

@@ -13,7 +13,7 @@ use Rattle.figures.specs.Words.{decode, size}
 use Rattle.figures.specs.Sound.{knownPolicy, knownSize, exactLength, sound}
 use Rattle.figures.specs.Request.{request}
 use Rattle.figures.specs.Refusals.{checkNumber, onCheck, onRequest, Answered, refusedRequest, servedRequest}
-use Rattle.figures.proofs.Moves.{request-moves-at-most}
+use Rattle.laws.proofs.Moves.{request-moves-at-most}
 use Rattle.entries.specs.Answers.{Tells}
 use Rattle.directory.specs.Promises.{Requested}
 use Rattle.directory.proofs.Serving.{decoded-sound}

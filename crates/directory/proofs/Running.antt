@@ -11,7 +11,7 @@ use Rattle.figures.specs.Run as Run
 use Rattle.figures.specs.Run.{zeroTally, run}
 use Rattle.figures.specs.Refusals as Refusals
 use Rattle.figures.specs.Refusals.{checkNumber, onCheck, runNumber, refusedRun, servedRun, onRun}
-use Rattle.figures.proofs.Moves.{run-moves-at-most}
+use Rattle.laws.proofs.Moves.{run-moves-at-most}
 use Rattle.tally.specs.declared.Tally.{Tally}
 use Rattle.tally.specs.Note.{defined}
 use Rattle.directory.specs.declared.Ran.{Ran}

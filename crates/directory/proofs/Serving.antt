@@ -15,11 +15,11 @@ use Rattle.figures.specs.Words.{encode, decode, size, nT1, nT2}
 use Rattle.figures.specs.Sound.{sound, car, cart}
 use Rattle.figures.specs.Request.{Policy, carPolicy, cartPolicy, policyOf, Served, still, hit, missed, request}
 use Rattle.figures.specs.Demands.{Sound}
-use Rattle.figures.proofs.Lists.{either}
-use Rattle.figures.proofs.Encoding.{encode-decode, words-fit}
-use Rattle.figures.proofs.Soundness.{facts-of-words}
-use Rattle.figures.proofs.Requests.{serve-hit, serve-room, serve-full}
-use Rattle.figures.proofs.Kept.{request-keeps}
+use Rattle.laws.proofs.Lists.{either}
+use Rattle.laws.proofs.Encoding.{encode-decode, words-fit}
+use Rattle.laws.proofs.Soundness.{facts-of-words}
+use Rattle.laws.proofs.Requests.{serve-hit, serve-room, serve-full}
+use Rattle.laws.proofs.Kept.{request-keeps}
 use Rattle.entries.specs.Answers.{Tells}
 use Rattle.entries.specs.Stretches.{Room, index}
 use Rattle.entries.proofs.Laid.{Header, header}

@@ -13,7 +13,7 @@ use Rattle.figures.specs.Entry.{Entry, newShort, cleared, marked, has, mark, wi
 use Rattle.figures.specs.Directory.{Directory, T1, T2, listOf, withList, toTail, placeNew, cached, remembered, listed}
 use Rattle.figures.specs.Request.{hit}
 use Rattle.figures.specs.Words.{flags, words, zeros, encode}
-use Rattle.figures.proofs.Lists.{HasHead, has-head, length-tail, length-marked, length-head-dropped, length-without}
+use Rattle.laws.proofs.Lists.{HasHead, has-head, length-tail, length-marked, length-head-dropped, length-without}
 use Rattle.entries.specs.Stretches.{nameOf, startOf, index}
 use Rattle.entries.specs.Leaves.{ToEnd, PutIn, TakenOut}
 use Rattle.entries.proofs.Laid.{heads, flags-cleared, flags-marked, length-listed, insert, length-insert, listed-around, listed-tail}

@@ -11,7 +11,7 @@ use Rattle.figures.specs.Choice.{if_then_else_, ∣_∣}
 use Rattle.figures.specs.Entry.{Entry, Filter, S, L, longOf, marked, cleared}
 use Rattle.figures.specs.Directory.{Directory, listOf, withP, withQ, withList, toTail, cached, remembered, listed}
 use Rattle.figures.specs.Words.{flags, words, zeros, encode}
-use Rattle.figures.proofs.Encoding.{words-append}
+use Rattle.laws.proofs.Encoding.{words-append}
 use Rattle.entries.specs.Stretches.{nameOf, startOf}
 use Rattle.entries.proofs.Starts.{starts-in-order, starts-within}
 

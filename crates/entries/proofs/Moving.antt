@@ -10,7 +10,7 @@ use Rattle.figures.specs.Choice.{∣_∣}
 use Rattle.figures.specs.Entry.{Entry}
 use Rattle.figures.specs.Directory.{Directory, listed}
 use Rattle.figures.specs.Words.{flags, words, zeros, encode}
-use Rattle.figures.proofs.Encoding.{words-append, length-words}
+use Rattle.laws.proofs.Encoding.{words-append, length-words}
 use Rattle.entries.specs.Leaves.{ToEnd, PutIn, TakenOut}
 use Rattle.entries.proofs.Laid.{heads, laid, zeros-after, insert}
 

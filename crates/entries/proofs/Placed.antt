@@ -8,7 +8,7 @@ use Rattle.figures.specs.Entry.{has}
 use Rattle.figures.specs.Words.{encode}
 use Rattle.figures.specs.Hand.{Hand}
 use Rattle.figures.specs.Request.{Policy, Served, missed}
-use Rattle.figures.proofs.Requests.{missed-B1, missed-B2, missed-new, missed-page, missed-list, missed-moves}
+use Rattle.laws.proofs.Requests.{missed-B1, missed-B2, missed-new, missed-page, missed-list, missed-moves}
 use Rattle.entries.specs.Answers.{Tells}
 
 module _ (π : Policy) (x : ℕ) (h : Hand) where

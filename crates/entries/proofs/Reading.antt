@@ -13,7 +13,7 @@ use Rattle.figures.specs.Directory.{Directory, listOf, listed}
 use Rattle.figures.specs.Words.{flags, words, zeros, encode}
 use Rattle.entries.specs.Stretches.{nameOf, startOf}
 use Rattle.entries.specs.Leaves.{OfEntries}
-use Rattle.figures.proofs.Encoding.{length-words, words-append}
+use Rattle.laws.proofs.Encoding.{length-words, words-append}
 use Rattle.entries.proofs.Laid.{heads, laid, header}
 
 -- The words w hold the list l from word a on.

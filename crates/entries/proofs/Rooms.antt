@@ -11,9 +11,9 @@ use Rattle.figures.specs.Choice.{if_then_else_, ∣_∣}
 use Rattle.figures.specs.Directory.{Directory, unit, cached, remembered}
 use Rattle.figures.specs.Words.{encode, decode, size, nT1, nT2, nB1, nB2}
 use Rattle.figures.specs.Sound.{car, sound}
-use Rattle.figures.proofs.Facts.{CarFacts, CartFacts, Shared, Opened, own-by}
-use Rattle.figures.proofs.Encoding.{encoded, encode-decode, words-fit}
-use Rattle.figures.proofs.Soundness.{facts-of-words}
+use Rattle.laws.proofs.Facts.{CarFacts, CartFacts, Shared, Opened, own-by}
+use Rattle.laws.proofs.Encoding.{encoded, encode-decode, words-fit}
+use Rattle.laws.proofs.Soundness.{facts-of-words}
 use Rattle.entries.specs.Stretches.{Room, startOf}
 use Rattle.entries.proofs.Laid.{header}
 

@@ -1,5 +1,5 @@
 -- Every promise about the definitions, each beside the sentence that asks for it; behind it, in brackets, the file of
--- proofs/ that proves it. A directory is meant by its value; WordsAreDirectories joins values and words.
+-- crates/laws/proofs that proves it. A directory is meant by its value; WordsAreDirectories joins values and words.
 use mathlib.Core.Path.{_≡_}
 use mathlib.Core.Bool.{true, _||_}
 use mathlib.Core.List.{List, [], _∷_, _++_}

@@ -14,8 +14,8 @@ use Rattle.figures.specs.Sound.{car, cart, knownPolicy, knownSize}
 use Rattle.figures.specs.Refusals as Refusals
 use Rattle.figures.specs.Refusals.{freshNumber, checkNumber, runNumber, onFresh, onCheck, onRun, servedRun}
 use Rattle.figures.specs.Run.{run}
-use Rattle.figures.proofs.Encoding.{decode-encode, words-fit}
-use Rattle.figures.proofs.Kept.{fresh-is-sound}
+use Rattle.laws.proofs.Encoding.{decode-encode, words-fit}
+use Rattle.laws.proofs.Kept.{fresh-is-sound}
 use Rattle.directory.specs.declared.Ran.{Ran}
 use Rattle.directory.specs.Promises.{Freshened, Replayed}
 use Rattle.directory.proofs.Refused.{check-sound}

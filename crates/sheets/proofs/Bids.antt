@@ -9,8 +9,8 @@ use lib.Dec.{ltb}
 use borrow.Author.Tests.{ltb-true}
 use Rattle.figures.specs.Choice.{∣_∣, same}
 use Rattle.figures.specs.Sound.{knownSize}
-use Rattle.figures.proofs.Lists.{by-test, either}
-use Rattle.figures.proofs.Encoding.{reads}
+use Rattle.laws.proofs.Lists.{by-test, either}
+use Rattle.laws.proofs.Encoding.{reads}
 use Rattle.sheets.specs.Text.{bytes, starts}
 use Rattle.sheets.specs.Number.{Value, means, wrong, whole, costForm, missCost}
 use Rattle.sheets.specs.Lines.{Lines, end, unclosed, line, lines, Reading, good, bad, before, under}

@@ -11,8 +11,8 @@ use lib.Seq.{take-all}
 use borrow.Author.Tests.{le-leb, lt-leb}
 use Rattle.figures.specs.Choice.{if_then_else_, ∣_∣}
 use Rattle.figures.specs.Refusals.{notInForm}
-use Rattle.figures.proofs.Lists.{by-test, either}
-use Rattle.figures.proofs.Encoding.{reads}
+use Rattle.laws.proofs.Lists.{by-test, either}
+use Rattle.laws.proofs.Encoding.{reads}
 use Rattle.sheets.specs.Text.{placeOf}
 use Rattle.sheets.specs.Number.{means, wrong, zeroDigit, comma, isDigit, allDigits, valueAfter, value}
 use Rattle.sheets.specs.Number.{noLeadingZero, digitsForm, whole, beforeComma, afterComma, costForm, missCost}

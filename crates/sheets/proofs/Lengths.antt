@@ -8,7 +8,7 @@ use lib.ListN.{length-append}
 use lib.Dec.{eqb}
 use Rattle.figures.specs.Choice.{∣_∣}
 use Rattle.figures.specs.Sound.{car}
-use Rattle.figures.proofs.Lists.{either}
+use Rattle.laws.proofs.Lists.{either}
 use Rattle.sheets.specs.Text.{bytes}
 use Rattle.sheets.specs.Result.{Outcome, decimal, milliseconds, policyName, lineOf, resultSheet}
 use Rattle.sheets.specs.Demands.{ResultFits}

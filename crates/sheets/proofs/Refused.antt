@@ -9,7 +9,7 @@ use lib.ListN.{drop}
 use lib.Dec.{ltb}
 use Rattle.figures.specs.Choice.{∣_∣}
 use Rattle.figures.specs.Sound.{knownSize}
-use Rattle.figures.proofs.Lists.{either}
+use Rattle.laws.proofs.Lists.{either}
 use Rattle.sheets.specs.Text.{bytes, starts}
 use Rattle.sheets.specs.Number.{Value, means, wrong, wholeForm, whole, costForm, missCost}
 use Rattle.sheets.specs.Lines.{Lines, end, unclosed, line, lines, Reading, good, bad, before, under}

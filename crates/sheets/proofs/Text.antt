@@ -10,7 +10,7 @@ use lib.Seq.{drop-cons}
 use lib.Dec.{eqb}
 use borrow.Author.Tests.{eq-eqb, ne-eqb}
 use Rattle.figures.specs.Choice.{if_then_else_, ∣_∣, same}
-use Rattle.figures.proofs.Lists.{either}
+use Rattle.laws.proofs.Lists.{either}
 use Rattle.sheets.specs.Text.{placeOf, starts}
 
 pub place-at-most : (x : ℕ) (s : List ℕ) → placeOf x s ≤ ∣ s ∣

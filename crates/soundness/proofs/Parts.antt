@@ -9,7 +9,7 @@ use Rattle.figures.specs.Choice.{∣_∣}
 use Rattle.figures.specs.Entry.{Entry, short, long, total}
 use Rattle.figures.specs.Directory.{Directory, listOf, listed}
 use Rattle.figures.specs.Words.{decode, nT1, nT2, nB1, nB2}
-use Rattle.figures.proofs.Lists.{short-and-long}
+use Rattle.laws.proofs.Lists.{short-and-long}
 use Rattle.entries.specs.Stretches.{nameOf, startOf}
 use Rattle.entries.specs.Leaves.{OfEntries}
 use Rattle.entries.proofs.Laid.{Header, header, length-of-list}

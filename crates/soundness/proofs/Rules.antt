@@ -7,7 +7,7 @@ use Prim.Native.Nat.{ℕ}
 use lib.ListN.{take, drop}
 use Rattle.figures.specs.Words.{used, unused}
 use Rattle.figures.specs.Sound.{allAtMost, flagWords, sound}
-use Rattle.figures.proofs.Encoding.{reads, shaped}
+use Rattle.laws.proofs.Encoding.{reads, shaped}
 use Rattle.soundness.proofs.Tests.{agree}
 use Rattle.soundness.specs.Orderly.{Orderly, sizesFit, Held, entriesSound}
 

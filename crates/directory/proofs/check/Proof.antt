@@ -9,7 +9,7 @@ use borrow.Author.Tests.{not-true, not-false}
 use Rattle.figures.specs.Choice.{∣_∣}
 use Rattle.figures.specs.Words.{size}
 use Rattle.figures.specs.Sound.{knownPolicy, knownSize}
-use Rattle.figures.proofs.Encoding.{reads}
+use Rattle.laws.proofs.Encoding.{reads}
 use Rattle.directory.proofs.Refused.{check-short, check-policy, check-size, check-length, check-unsound, check-sound}
 use borrow.Author.Needs.{needs}
 use Rattle.directory.proofs.check.Statement.{statement}

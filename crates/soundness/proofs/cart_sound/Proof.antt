@@ -5,8 +5,8 @@ use native.Mathlib.Omega.{arith}
 use Rattle.figures.specs.Entry.{short, long, total}
 use Rattle.figures.specs.Words.{decode}
 use Rattle.figures.specs.Sound.{cartSound}
-use Rattle.figures.proofs.Lists.{total-append}
-use Rattle.figures.proofs.Encoding.{reads}
+use Rattle.laws.proofs.Lists.{total-append}
+use Rattle.laws.proofs.Encoding.{reads}
 use Rattle.soundness.proofs.Tests.{fails, agree}
 use Rattle.soundness.proofs.Parts.{told, t2-stands, b1-stands, b2-stands, filters}
 use borrow.Author.Needs.{needs}

@@ -6,18 +6,18 @@ use mathlib.Core.List.{List, [], _∷_, _++_, append-assoc, append-nil}
 use Prim.Native.Nat.{ℕ, zero, suc, _+_, _-_, _*_, _≤_, _<_, max}
 use native.Mathlib.Omega.{arith}
 use borrow.Author.Tests.{eq-eqb, ne-eqb, le-leb}
 use Rattle.figures.specs.Choice.{if_then_else_, ∣_∣}
 use Rattle.figures.specs.Entry.{Entry, newShort, newLong, marked, bits, short, long, total, has, mark}
 use Rattle.figures.specs.Directory.{Directory, unit, T1, T2, B1, B2, fresh, withLists, withQ, placeNew}
 use Rattle.figures.specs.Hand.{Hand, onward, repeat}
 use Rattle.figures.specs.Sound.{car, cart}
 use Rattle.figures.specs.Car as Car
 use Rattle.figures.specs.Cart as Cart
 use Rattle.figures.specs.Request.{policyOf, Served, request}
 use Rattle.figures.specs.Run.{run}
 use Rattle.figures.specs.Demands.{pagesFrom, allTwice, CarReached, CartReached}
-use Rattle.figures.proofs.Requests.{serve-hit, serve-room, serve-full, missed-moves, after, run-after, after-append}
-use Rattle.figures.proofs.Lists.{is, total-append, counts-has, is-itself}
+use Rattle.laws.proofs.Requests.{serve-hit, serve-room, serve-full, missed-moves, after, run-after, after-append}
+use Rattle.laws.proofs.Lists.{is, total-append, counts-has, is-itself}
 
 -- What the pages from x on, n of them, are made by f.
 abbrev made : (ℕ → Entry) → ℕ → ℕ → List Entry

@@ -7,23 +7,23 @@ use Prim.Native.Nat.{ℕ, _+_, _≤_, _<_}
 use native.Mathlib.Omega.{arith}
 use lib.Dec.{eqb}
 use borrow.Author.Tests.{eqb-true, eqb-false, eq-eqb}
 use Rattle.figures.specs.Choice.{if_then_else_}
 use Rattle.figures.specs.Entry.{has}
 use Rattle.figures.specs.Directory.{Directory, fresh, placeNew, cached, remembered, inCache}
 use Rattle.figures.specs.Hand.{Hand}
 use Rattle.figures.specs.Sound.{car, knownPolicy}
 use Rattle.figures.specs.Request.{Policy, carPolicy, cartPolicy, policyOf, hit, missed, serve, request}
 use Rattle.figures.specs.Demands.{Sound, RequestKeeps, FreshIsSound}
-use Rattle.figures.proofs.Lists.{is}
-use Rattle.figures.proofs.Facts.{CarFacts, CartFacts, Shared, Opened, Trimmed}
-use Rattle.figures.proofs.Encoding.{reads}
-use Rattle.figures.proofs.Soundness.{facts, facts-sound}
-use Rattle.figures.proofs.Requests.{serve-by-cases, missed-by-cases, after}
-use Rattle.figures.proofs.Placing.{Roomy, Open, CameBack, counted-cached, found-counted, missed-uncounted, hit-either, hit-keeps, hit-cached}
-use Rattle.figures.proofs.Placing.{new-cached, new-keeps, opened-open, trimmed-roomy, room-roomy}
-use Rattle.figures.proofs.Placing.{car-B1-back, car-B2-back, cart-B1-back, cart-B2-back}
-use Rattle.figures.proofs.Car.{car-opens, car-opened, car-trims, car-places-new, car-places-B1, car-places-B2, car-hits, car-has-room}
-use Rattle.figures.proofs.Cart.{cart-opens, cart-opened, cart-trims, cart-places-new, cart-places-B1, cart-places-B2, cart-hits, cart-has-room}
+use Rattle.laws.proofs.Lists.{is}
+use Rattle.laws.proofs.Facts.{CarFacts, CartFacts, Shared, Opened, Trimmed}
+use Rattle.laws.proofs.Encoding.{reads}
+use Rattle.laws.proofs.Soundness.{facts, facts-sound}
+use Rattle.laws.proofs.Requests.{serve-by-cases, missed-by-cases, after}
+use Rattle.laws.proofs.Placing.{Roomy, Open, CameBack, counted-cached, found-counted, missed-uncounted, hit-either, hit-keeps, hit-cached}
+use Rattle.laws.proofs.Placing.{new-cached, new-keeps, opened-open, trimmed-roomy, room-roomy}
+use Rattle.laws.proofs.Placing.{car-B1-back, car-B2-back, cart-B1-back, cart-B2-back}
+use Rattle.laws.proofs.Car.{car-opens, car-opened, car-trims, car-places-new, car-places-B1, car-places-B2, car-hits, car-has-room}
+use Rattle.laws.proofs.Cart.{cart-opens, cart-opened, cart-trims, cart-places-new, cart-places-B1, cart-places-B2, cart-hits, cart-has-room}
 
 -- What a request must leave of a directory: the rules of both policies and the policy's own, with page x cached.
 pub record Left (Own : Directory → Type 0) (x : ℕ) (d d′ : Directory) : Type 0 where

@@ -7,19 +7,19 @@ use Prim.Native.Nat.{ℕ, _+_, _*_, _≤_, _<_}
 use native.Mathlib.Omega.{arith}
 use lib.Dec.{eqb}
 use borrow.Author.Tests.{eqb-true, eqb-false}
 use Rattle.figures.specs.Choice.{∣_∣}
 use Rattle.figures.specs.Entry.{Entry, Filter, newShort, bits, long, has, dropHead}
 use Rattle.figures.specs.Directory.{Directory, T1, T2, B1, B2, withList, placeNew, cached, remembered, inCache}
 use Rattle.figures.specs.Hand.{Hand, begin, Look, again}
 use Rattle.figures.specs.Car.{look, choose, evict, trim, placeB1, placeB2}
 use Rattle.figures.specs.Request.{hit}
 use Rattle.figures.specs.Demands.{CarStops, Evicts, CarTrimHasHead}
-use Rattle.figures.proofs.Lists.{by-test, either, entryOf, length-tail, length-head-dropped, length-marked, length-without-at-most}
-use Rattle.figures.proofs.Lists.{total-tail, total-head-dropped, total-without, total-marked-same}
-use Rattle.figures.proofs.Repeats.{Leads, Ended, repeat-ends}
-use Rattle.figures.proofs.Facts.{Shared, CarFacts, Opened, Trimmed}
-use Rattle.figures.proofs.Turns.{holding, Turned, not-turned, turnedTo, Exchanged, turned-on, chosen}
-use Rattle.figures.proofs.Turns.{Evicted, evicted-t1, evicted-t2, trimmed-not, trimmed-b1, trimmed-b2}
+use Rattle.laws.proofs.Lists.{by-test, either, entryOf, length-tail, length-head-dropped, length-marked, length-without-at-most}
+use Rattle.laws.proofs.Lists.{total-tail, total-head-dropped, total-without, total-marked-same}
+use Rattle.laws.proofs.Repeats.{Leads, Ended, repeat-ends}
+use Rattle.laws.proofs.Facts.{Shared, CarFacts, Opened, Trimmed}
+use Rattle.laws.proofs.Turns.{holding, Turned, not-turned, turnedTo, Exchanged, turned-on, chosen}
+use Rattle.laws.proofs.Turns.{Evicted, evicted-t1, evicted-t2, trimmed-not, trimmed-b1, trimmed-b2}
 
 -- The accounts that a hand keeps; what looks keep, and what the last one leaves, which moves and clears no bit.
 

@@ -3,18 +3,18 @@
 use mathlib.Core.Path.{_≡_}
 use mathlib.Core.Bool.{Bool, true, false}
 use lib.Dec.{eqb}
 use Rattle.figures.specs.Choice.{if_then_else_}
 use Rattle.figures.specs.Directory.{Directory, cached}
 use Rattle.figures.specs.Sound.{car}
 use Rattle.figures.specs.Car as Car
 use Rattle.figures.specs.Cart as Cart
 use Rattle.figures.specs.Request.{carPolicy, cartPolicy}
 use Rattle.figures.specs.Demands.{WhenFull, CarStops, CartStops, PublishedStopComesFirst, Evicts, EvictsOne, CountsKept}
 use Rattle.figures.specs.Demands.{CarTrimHasHead, CartTrimHasHead, TrimHasHead}
-use Rattle.figures.proofs.Facts.{Shared, CarFacts, CartFacts, own-by}
-use Rattle.figures.proofs.Soundness.{facts, by-policy}
-use Rattle.figures.proofs.Car.{car-stops, car-evicts, car-trim-has-head}
-use Rattle.figures.proofs.Cart.{cart-stops, cart-evicts, cart-counts, cart-trim-has-head}
+use Rattle.laws.proofs.Facts.{Shared, CarFacts, CartFacts, own-by}
+use Rattle.laws.proofs.Soundness.{facts, by-policy}
+use Rattle.laws.proofs.Car.{car-stops, car-evicts, car-trim-has-head}
+use Rattle.laws.proofs.Cart.{cart-stops, cart-evicts, cart-counts, cart-trim-has-head}
 
 -- What holds of CAR's directories and of CART's holds of every sound one that is full.
 when-full : (P : Bool → Directory → Type 0)

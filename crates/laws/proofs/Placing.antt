@@ -7,16 +7,16 @@ use Prim.Native.Nat.{ℕ, _+_, _-_, _*_, _≤_, _<_, min}
 use native.Mathlib.Omega.{arith}
 use lib.Dec.{leb, eqb}
 use borrow.Author.Tests.{eqb-true, eq-eqb}
 use Rattle.figures.specs.Choice.{if_then_else_, ∣_∣}
 use Rattle.figures.specs.Entry.{Entry, newShort, newLong, bits, total, has, mark, without}
 use Rattle.figures.specs.Directory.{Directory, unit, T1, T2, withLists, withList, withQ, cached, remembered, inCache, placeNew}
 use Rattle.figures.specs.Hand.{Hand}
 use Rattle.figures.specs.Car as Car
 use Rattle.figures.specs.Cart as Cart
 use Rattle.figures.specs.Request.{hit}
-use Rattle.figures.proofs.Lists.{either, is, has-counts, lacks-counts, counts-has, count-without, is-at-most-one}
-use Rattle.figures.proofs.Lists.{length-tail, total-tail, total-at-most, length-marked, total-marked-same, length-without, total-without}
-use Rattle.figures.proofs.Facts.{inHistory, Shared, Opened, Trimmed}
+use Rattle.laws.proofs.Lists.{either, is, has-counts, lacks-counts, counts-has, count-without, is-at-most-one}
+use Rattle.laws.proofs.Lists.{length-tail, total-tail, total-at-most, length-marked, total-marked-same, length-without, total-without}
+use Rattle.laws.proofs.Facts.{inHistory, Shared, Opened, Trimmed}
 
 -- 1 where x and y are the same page.
 abbrev pub same : ℕ → ℕ → ℕ

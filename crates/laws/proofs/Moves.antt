@@ -7,26 +7,26 @@ use Prim.Native.Nat.{ℕ, _+_, _*_, _≤_}
 use native.Mathlib.Omega.{arith}
 use lib.Dec.{eqb, ltb}
 use borrow.Author.Tests.{eqb-true}
 use Rattle.figures.specs.Choice.{if_then_else_, ∣_∣}
 use Rattle.figures.specs.Entry.{newShort, newLong, bits, total}
 use Rattle.figures.specs.Directory.{Directory, fresh, placeNew, cached, remembered, inCache}
 use Rattle.figures.specs.Hand.{Hand}
 use Rattle.figures.specs.Sound.{car, cart, knownPolicy}
 use Rattle.figures.specs.Car as Car
 use Rattle.figures.specs.Cart as Cart
 use Rattle.figures.specs.Request.{Policy, carPolicy, cartPolicy, policyOf, Served, hit, serve, request}
 use Rattle.figures.specs.Run.{Tally, zeroTally, noted, runFrom}
 use Rattle.figures.specs.Demands.{Sound, StillRequests, CarMovesAreBitsCleared, RequestMovesAtMost}
 use Rattle.figures.specs.Demands.{movesEach, owed, RunMovesAtMost, lastMoves, CarRequestAtMost, CartRequestAtMost, CarRunAtMost, CartRunAtMost}
-use Rattle.figures.proofs.Lists.{either, total-tail, total-at-most, total-marked-at-most, bits-at-most-one}
-use Rattle.figures.proofs.Facts.{Shared, CarFacts, CartFacts, Facts, own-by}
-use Rattle.figures.proofs.Encoding.{reads}
-use Rattle.figures.proofs.Soundness.{facts, by-policy}
-use Rattle.figures.proofs.Requests.{serve-by-cases, missed-by-cases, missed-moves, after, run-after}
-use Rattle.figures.proofs.Placing.{hit-either, raised}
-use Rattle.figures.proofs.Kept.{request-keeps, fresh-is-sound, run-keeps, run-same-policy, run-same-size}
-use Rattle.figures.proofs.Car.{car-evicts, car-moves}
-use Rattle.figures.proofs.Cart.{owing, cost-at-most-two, cart-moves}
+use Rattle.laws.proofs.Lists.{either, total-tail, total-at-most, total-marked-at-most, bits-at-most-one}
+use Rattle.laws.proofs.Facts.{Shared, CarFacts, CartFacts, Facts, own-by}
+use Rattle.laws.proofs.Encoding.{reads}
+use Rattle.laws.proofs.Soundness.{facts, by-policy}
+use Rattle.laws.proofs.Requests.{serve-by-cases, missed-by-cases, missed-moves, after, run-after}
+use Rattle.laws.proofs.Placing.{hit-either, raised}
+use Rattle.laws.proofs.Kept.{request-keeps, fresh-is-sound, run-keeps, run-same-policy, run-same-size}
+use Rattle.laws.proofs.Car.{car-evicts, car-moves}
+use Rattle.laws.proofs.Cart.{owing, cost-at-most-two, cart-moves}
 
 pub still-requests : StillRequests
 still-requests x d =

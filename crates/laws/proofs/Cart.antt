@@ -7,22 +7,22 @@ use Prim.Native.Nat.{ℕ, _+_, _-_, _*_, _/_, _≤_, max, min}
 use native.Mathlib.Omega.{arith}
 use lib.Dec.{leb, ltb, eqb}
 use borrow.Author.Tests.{eqb-true, eqb-false, ltb-true}
 use Rattle.figures.specs.Choice.{if_then_else_, ∣_∣}
 use Rattle.figures.specs.Entry.{Entry, Filter, S, L, newLong, cleared, bits, shortOf, longOf, short, long}
 use Rattle.figures.specs.Entry.{total, has, without, dropHead}
 use Rattle.figures.specs.Directory.{Directory, unit, T1, T2, B1, B2, withP, withQ, withList, toTail}
 use Rattle.figures.specs.Directory.{placeNew, cached, remembered, inCache}
 use Rattle.figures.specs.Hand.{Hand, withDir, turn, Look, again}
 use Rattle.figures.specs.Cart.{raise, becomesLong, cost, firstLook, secondLook, firstPass, secondPass}
 use Rattle.figures.specs.Cart.{demoteT1, demoteT2, demotion, counted, evict, trim, placeB1, placeB2}
 use Rattle.figures.specs.Request.{hit}
 use Rattle.figures.specs.Demands.{Evicts, CartStops, CartTrimHasHead}
-use Rattle.figures.proofs.Lists.{by-test, by-tests, either, entryOf, atHead, head-of-tail, short-or-long}
-use Rattle.figures.proofs.Lists.{total-tail, total-without, total-marked-same, total-head-dropped}
-use Rattle.figures.proofs.Repeats.{Leads, Ended, repeat-ends}
-use Rattle.figures.proofs.Facts.{Shared, CartFacts, Opened, Trimmed}
-use Rattle.figures.proofs.Turns.{holding, Turned, not-turned, turnedTo, Exchanged, turned-on, chosen}
-use Rattle.figures.proofs.Turns.{Evicted, evicted-t1, evicted-t2, trimmed-not, trimmed-b1, trimmed-b2}
+use Rattle.laws.proofs.Lists.{by-test, by-tests, either, entryOf, atHead, head-of-tail, short-or-long}
+use Rattle.laws.proofs.Lists.{total-tail, total-without, total-marked-same, total-head-dropped}
+use Rattle.laws.proofs.Repeats.{Leads, Ended, repeat-ends}
+use Rattle.laws.proofs.Facts.{Shared, CartFacts, Opened, Trimmed}
+use Rattle.laws.proofs.Turns.{holding, Turned, not-turned, turnedTo, Exchanged, turned-on, chosen}
+use Rattle.laws.proofs.Turns.{Evicted, evicted-t1, evicted-t2, trimmed-not, trimmed-b1, trimmed-b2}
 
 -- What the cache can still cost the hand: besides T1's cost, a set bit of T2 a move to T1 and one back.
 abbrev pub owing : Directory → ℕ
