@@ -1,0 +1,2 @@
+-- The proofs of this crate: the laws of reads, and a folder for each function.
+pub mod Reading

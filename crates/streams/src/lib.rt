@@ -1,0 +1,87 @@
+// Standard input and output for every program here: read whole and written whole, or said why not, in one line on
+// standard error. The program that is told of a failure prints nothing more and ends with a status that is not 0.
+ghost use mathlib.Core.Path.{_≡_};
+ghost use Prim.Native.Nat.{_≤_};
+ghost use lib.ListN.{length};
+ghost use Rattle.streams.specs.Reads.{put, Some, OneRead, Handed};
+
+// What came of standard input: so many bytes, fewer than were asked for only where the input ended; or a read failed.
+pub enum Input {
+    Came(usize),
+    Failed,
+}
+
+// What one read came to.
+pub enum Got {
+    Bytes(usize),
+    End,
+    Interrupted,
+    Failed,
+}
+
+// A read that a signal interrupts is tried again, so many times in all: a proved loop has to end.
+const TRIES: u32 = 1000000;
+
+// Why a read moved nothing: only an answer of 0 is the end of the input.
+fn nothing(got: isize) -> Got
+    ensures { λ r. ⌜ (put r ≡ 0) × Some r ⌝ }
+{
+    if got == 0 {
+        return Got::End;
+    }
+    if os::errno() == libc::EINTR {
+        return Got::Interrupted;
+    }
+    Got::Failed
+}
+
+// One read, from a place of the buffer on.
+fn read_once(buf: &mut [u8], at: usize) -> Got
+    requires { ⌜ at ≤ length (now buf) ⌝ }
+    ensures { λ r. ⌜ OneRead (now (buf .entry)) at r (now (buf .exit)) ⌝ }
+{
+    let part = &mut buf[at..];
+    let got = libc::read(libc::STDIN_FILENO, part);
+    let n = io::count(got, part);
+    if n == 0 {
+        return nothing(got);
+    }
+    Got::Bytes(n)
+}
+
+fn failed() -> Input
+    ensures { λ r. ⌜ r ≡ Input.Failed ⌝ }
+{
+    os::fail(b"reading standard input");
+    Input::Failed
+}
+
+// Reads until the input ends or the buffer is full.
+pub fn read_input(buf: &mut [u8]) -> Input
+    ensures { λ r. ⌜ Handed (now (buf .entry)) r (now (buf .exit)) ⌝ }
+{
+    let mut at = 0;
+    let mut tries = TRIES;
+    while at < buf.len() && 0 < tries {
+        let got = read_once(buf, at);
+        match got {
+            Got::Bytes(n) => at += n,
+            Got::End => return Input::Came(at),
+            Got::Interrupted => tries -= 1,
+            Got::Failed => return failed(),
+        }
+    }
+    if at < buf.len() {
+        return failed();
+    }
+    Input::Came(at)
+}
+
+// Writes all of a text to standard output, and answers whether that went well.
+pub fn print(text: &[u8]) -> bool {
+    let written = io::write_all(libc::STDOUT_FILENO, text);
+    if !written {
+        os::fail(b"writing standard output");
+    }
+    written
+}
