@@ -5,6 +5,13 @@ ghost use mathlib.Core.Path.{_≡_};
 ghost use Prim.Native.Nat.{_+_, _*_, _≤_};
 ghost use lib.ListN.{length};
 
+// A call's operation, or the input ended before it.
+pub enum Op {
+    Is(u32),
+    End,
+    Unreadable,
+}
+
 pub enum Word {
     Is(u32),
     Unreadable,
@@ -16,7 +23,13 @@ pub struct Buffer {
     pub count: usize,
 }
 
-fn unreadable() -> Buffer
+// Says that a call cannot be read, and answers false.
+pub fn unreadable() -> bool {
+    io::write_all(libc::STDERR_FILENO, b"probe: a call that cannot be read\n");
+    false
+}
+
+fn no_buffer() -> Buffer
     ensures { λ r. ⌜ r .count ≡ 0 ⌝ }
 {
     Buffer {
@@ -25,23 +38,49 @@ fn unreadable() -> Buffer
     }
 }
 
+fn too_long() -> Buffer
+    ensures { λ r. ⌜ r .count ≡ 0 ⌝ }
+{
+    unreadable();
+    no_buffer()
+}
+
 fn word_of(a: u8, b: u8, c: u8, d: u8) -> u32 {
     a as u32 + 256 * (b as u32) + 65536 * (c as u32) + 16777216 * (d as u32)
 }
 
+pub fn read_op() -> Op {
+    let mut raw = [0u8; 4];
+    let streams::Input::Came(n) = streams::read_input(&mut raw) else {
+        return Op::Unreadable;
+    };
+    if n == 0 {
+        return Op::End;
+    }
+    if n < 4 {
+        unreadable();
+        return Op::Unreadable;
+    }
+    Op::Is(word_of(raw[0], raw[1], raw[2], raw[3]))
+}
+
+// All of raw from the input; false where that has fewer bytes.
+fn fill(raw: &mut [u8]) -> bool {
+    let streams::Input::Came(n) = streams::read_input(raw) else {
+        return false;
+    };
+    if n < raw.len() {
+        return unreadable();
+    }
+    true
+}
+
 pub fn read_word() -> Word {
     let mut raw = [0u8; 4];
-    if io::read_full(0, &mut raw) < 4 {
+    if !fill(&mut raw) {
         return Word::Unreadable;
     }
     Word::Is(word_of(raw[0], raw[1], raw[2], raw[3]))
-}
-
-// The next bytes of the input, put at the start of raw; false where it has fewer.
-fn fill(raw: &mut [u8], count: usize) -> bool
-    requires { ⌜ count ≤ length (now raw) ⌝ }
-{
-    io::read_full(0, &mut raw[0..count]) == count
 }
 
 // The length and the raw bytes of a buffer of at most so many elements.
@@ -49,16 +88,16 @@ fn read_raw(most: usize, raw: &mut [u8]) -> Buffer
     ensures { λ r. ⌜ (r .count ≤ most) × (4 * r .count ≤ length (now (raw .exit))) ⌝ }
 {
     let Word::Is(n) = read_word() else {
-        return unreadable();
+        return no_buffer();
     };
     let count = n as usize;
     if most < count {
-        return unreadable();
+        return too_long();
     }
     if raw.len() < 4 * count {
-        return unreadable();
+        return too_long();
     }
-    let readable = fill(raw, 4 * count);
+    let readable = fill(&mut raw[0..4 * count]);
     Buffer { readable, count }
 }
 
@@ -98,7 +137,7 @@ fn unpack_bytes(raw: &[u8], bytes: &mut [u8]) -> bool
     while i < bytes.len() {
         let word = word_at(raw, 4 * i);
         if 255 < word {
-            return false;
+            return unreadable();
         }
         bytes[i] = word as u8;
         i += 1;
@@ -123,9 +162,9 @@ pub fn read_bytes(bytes: &mut [u8], raw: &mut [u8]) -> Buffer
 pub fn read_numbers(numbers: &mut [u32], raw: &mut [u8]) -> bool {
     let count = 4 * numbers.len();
     if raw.len() < count {
-        return false;
+        return unreadable();
     }
-    if !fill(raw, count) {
+    if !fill(&mut raw[0..count]) {
         return false;
     }
     unpack(raw, numbers);
@@ -186,5 +225,5 @@ pub fn send(raw: &[u8], end: usize) -> bool {
     if raw.len() < end {
         return false;
     }
-    io::write_all(1, &raw[0..end])
+    streams::print(&raw[0..end])
 }
