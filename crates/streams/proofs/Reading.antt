@@ -7,26 +7,31 @@ use native.Mathlib.Omega.{arith}
 use lib.ListN.{length, take, drop}
 use lib.Seq.{take-add}
 use borrow.Rule.Slice.PartMut.{midOf, putMid, mid-len, same-len-mid, take-put}
-use Rattle.streams.specs.Reads.{ReadAt, Reads, none, more, came, HandedOn, Handed, OneRead}
+use Rattle.streams.specs.Reads.{put, Some, GoesOn, ReadAt, Reads, none, more, came, ended, full, Whole, Handed}
 use Rattle.streams.specs.declared.Input.{Input}
 use Rattle.streams.specs.declared.Input.the-variants.{Failed}
 use Rattle.streams.specs.declared.Got.{Got}
-use Rattle.streams.specs.declared.Got.the-variants.{Bytes}
+use Rattle.streams.specs.declared.Got.the-variants.{End, Interrupted}
 
-pub read-at : (w part : List ℕ) (at n : ℕ) → at ≤ length w → length part ≡ length (midOf at (length w - at) w)
-    → n ≤ length part → ReadAt w at n (putMid at (length w - at) w part)
-read-at w part at n within same few =
+pub read-at : (w part : List ℕ) (at : ℕ) (r : Got) → at ≤ length w → length part ≡ length (midOf at (length w - at) w)
+    → Some r → put r ≤ length part → ReadAt w at r (putMid at (length w - at) w part)
+read-at w part at r within same some few =
     let long = same ∙ mid-len at (length w) w (omega arith) in
     record {
+      some = some;
       fits = omega (arith, few, long, within);
       as-long = same-len-mid at (length w - at) w part same;
       before-stays = take-put at (length w - at) w part within;
     }
 
-pub in-order : {w w′ : List ℕ} {n : ℕ} (r : Reads w n w′) → take n w′ ≡ came r
+-- What the read came to, by its name.
+pub read-as : {w v : List ℕ} {at : ℕ} {r s : Got} → r ≡ s → ReadAt w at r v → ReadAt w at s v
+read-as {w} {v} {at} is one = subst (λ (r : Got). ReadAt w at r v) is one
+
+in-order : {w v : List ℕ} {n : ℕ} (r : Reads w n v) → take n v ≡ came r
 in-order none = refl
-in-order (more {at} {n} {v} {w′} before one) =
-    take-add at n w′ ∙ ap (λ (l : List ℕ). l ++ take n (drop at w′)) (one .before-stays ∙ in-order before)
+in-order (more {at} {v} {w′} before r on one) =
+    take-add at (put r) w′ ∙ ap (λ (l : List ℕ). l ++ take (put r) (drop at w′)) (one .before-stays ∙ in-order before)
 
 -- So far so many bytes have come, and the buffer is as long as it was.
 pub record SoFar (w : List ℕ) (at : ℕ) (v : List ℕ) : Type 0 where
@@ -37,22 +42,29 @@ pub record SoFar (w : List ℕ) (at : ℕ) (v : List ℕ) : Type 0 where
 pub begun : (w : List ℕ) → SoFar w 0 w
 begun w = record { reads = none; fits = omega arith; as-long = refl }
 
-pub one-more : {w v w′ : List ℕ} {at n : ℕ} → SoFar w at v → ReadAt v at n w′ → SoFar w (at + n) w′
-one-more {n = n} h one = record {
-  reads = more (h .reads) one;
+pub one-more : {w v w′ : List ℕ} {at : ℕ} → SoFar w at v → (r : Got) → GoesOn r → ReadAt v at r w′ → SoFar w (at + put r) w′
+one-more h r on one = record {
+  reads = more (h .reads) r on one;
   fits = omega (arith, one .fits, one .as-long);
   as-long = one .as-long ∙ h .as-long;
 }
 
--- A read that put nothing.
-pub none-more : {w v w′ : List ℕ} {at n : ℕ} → SoFar w at v → ReadAt v at n w′ → n ≡ 0 → SoFar w at w′
-none-more {w} {w′ = w′} h one nothing = subst (λ (m : ℕ). SoFar w m w′) (omega (arith, nothing)) (one-more h one)
+-- An interrupted read put nothing.
+pub none-more : {w v w′ : List ℕ} {at : ℕ} → SoFar w at v → ReadAt v at Interrupted w′ → SoFar w at w′
+none-more {w} {w′ = w′} h one = subst (λ (n : ℕ). SoFar w n w′) (omega arith) (one-more h Interrupted tt one)
 
-pub handed-on : {w v : List ℕ} {n : ℕ} → SoFar w n v → HandedOn w n v
-handed-on h = record { fits = h .fits; reads = h .reads; in-order = in-order (h .reads) }
+pub found-end : {w v w′ : List ℕ} {n : ℕ} → SoFar w n v → ReadAt v n End w′ → Whole w n w′
+found-end {v = v} h one = record {
+  last = v;
+  reads = h .reads;
+  over = ended one;
+  in-order = one .before-stays ∙ in-order (h .reads);
+  fits = omega (arith, h .fits, one .as-long);
+}
+
+pub filled : {w v : List ℕ} {n : ℕ} → SoFar w n v → length v ≤ n → Whole w n v
+filled {v = v} h all =
+    record { last = v; reads = h .reads; over = full (omega (arith, h .fits)); in-order = in-order (h .reads); fits = h .fits }
 
 pub handed-nothing : (w v : List ℕ) {r : Input} → r ≡ Failed → length v ≡ length w → Handed w r v
 handed-nothing w v is same = subst (λ (r : Input). Handed w r v) (sym is) same
-
-pub read-bytes : {w v : List ℕ} {at n : ℕ} {r : Got} → r ≡ Bytes n → OneRead w at r v → OneRead w at (Bytes n) v
-read-bytes {w} {v} {at} is one = subst (λ (r : Got). OneRead w at r v) is one

@@ -3,7 +3,8 @@
 ghost use mathlib.Core.Path.{_≡_};
 ghost use Prim.Native.Nat.{_≤_};
 ghost use lib.ListN.{length};
-ghost use Rattle.streams.specs.Reads.{put, Some, OneRead, Handed};
+ghost use Rattle.libc.specs.Io.{Moved};
+ghost use Rattle.streams.specs.Reads.{Tells, ReadAt, Handed};
 
 // What came of standard input: so many bytes, fewer than were asked for only where the input ended; or a read failed.
 pub enum Input {
@@ -22,12 +23,17 @@ pub enum Got {
 // A read that a signal interrupts is tried again, so many times in all: a proved loop has to end.
 const TRIES: u32 = 1000000;
 
-// Why a read moved nothing: only an answer of 0 is the end of the input.
-fn nothing(got: isize) -> Got
-    ensures { λ r. ⌜ (put r ≡ 0) × Some r ⌝ }
+// What a read's answer tells: only 0 is the end of the input.
+fn told(got: isize, part: &[u8]) -> Got
+    requires { ⌜ Moved (length (now part)) got ⌝ }
+    ensures { λ r. ⌜ Tells got r ⌝ }
 {
     if got == 0 {
         return Got::End;
+    }
+    let n = io::count(got, part);
+    if n != 0 {
+        return Got::Bytes(n);
     }
     if os::errno() == libc::EINTR {
         return Got::Interrupted;
@@ -38,15 +44,11 @@ fn nothing(got: isize) -> Got
 // One read, from a place of the buffer on.
 fn read_once(buf: &mut [u8], at: usize) -> Got
     requires { ⌜ at ≤ length (now buf) ⌝ }
-    ensures { λ r. ⌜ OneRead (now (buf .entry)) at r (now (buf .exit)) ⌝ }
+    ensures { λ r. ⌜ ReadAt (now (buf .entry)) at r (now (buf .exit)) ⌝ }
 {
     let part = &mut buf[at..];
     let got = libc::read(libc::STDIN_FILENO, part);
-    let n = io::count(got, part);
-    if n == 0 {
-        return nothing(got);
-    }
-    Got::Bytes(n)
+    told(got, part)
 }
 
 fn failed() -> Input

@@ -1,13 +1,13 @@
 -- What came before each turn, and the read of that turn, are what came after it.
 -- What is left to read, or to be interrupted, falls.
-use mathlib.Core.Path.{ap, _∙_}
+use mathlib.Core.Path.{_∙_}
 use Prim.Native.Nat.{_+_, _-_}
 use native.Mathlib.Omega.{arith}
 use lib.ListN.{length}
 use borrow.Author.Needs.{needs}
 use borrow.Author.Tests.{ltb-true}
-use Rattle.streams.specs.Reads.{put}
-use Rattle.streams.proofs.Reading.{SoFar, begun, one-more, none-more, read-bytes, handed-on, handed-nothing}
+use Rattle.streams.specs.declared.Got.the-variants.{Bytes}
+use Rattle.streams.proofs.Reading.{SoFar, begun, read-as, one-more, none-more, found-end, filled, handed-nothing}
 use Rattle.streams.proofs.read_input.Statement.{statement}
 use Rattle.streams.proofs.read_input.Tie as tie
 
@@ -20,46 +20,46 @@ abbrev μ-loop : tie.MeasureT-loop
 add-at : tie.Need-add-at Inv-loop μ-loop
 add-at c =
     let after-read = c .before .before .before .before .before in
-    let one = read-bytes (c .before .got .given .1) (after-read .read-once .ensures) in
+    let one = read-as (c .before .got .given .1) (after-read .read-once .ensures) in
     search needs
 
 loop-less : tie.Need-loop-less Inv-loop μ-loop
 loop-less c =
     let after-read = c .before .before .before .before .before in
-    let one = read-bytes (c .before .got .given .1) (after-read .read-once .ensures) in
-    omega (arith, one .some, one .reads .fits, one .reads .as-long)
+    let one = read-as (c .before .got .given .1) (after-read .read-once .ensures) in
+    omega (arith, one .some, one .fits, one .as-long)
 
 loop-again : tie.Need-loop-again Inv-loop μ-loop
 loop-again c =
     let after-read = c .before .before .before .before .before in
     let in-loop = after-read .before .before .before .before in
-    let one = read-bytes (c .before .got .given .1) (after-read .read-once .ensures) in
-    one-more (in-loop .loop .inv) (one .reads)
+    let one = read-as (c .before .got .given .1) (after-read .read-once .ensures) in
+    one-more (in-loop .loop .inv) (Bytes _) tt one
 
 ended : tie.Need-returns Inv-loop μ-loop
 ended c =
     let after-read = c .before .before .before .before in
     let in-loop = after-read .before .before .before .before in
-    handed-on (none-more (in-loop .loop .inv) (after-read .read-once .ensures .reads) (ap put (c .enum-told .given .1)))
+    found-end (in-loop .loop .inv) (read-as (c .enum-told .given .1) (after-read .read-once .ensures))
 
 interrupted-less : tie.Need-loop-less-2 Inv-loop μ-loop
 interrupted-less c =
     let after-read = c .before .before .before .before in
     let at-test = after-read .before .before in
     let left = ltb-true 0 (at-test .before .before .loop .tries) (at-test .if1 .taken) in
-    omega (arith, left, after-read .read-once .ensures .reads .as-long)
+    omega (arith, left, after-read .read-once .ensures .as-long)
 
 interrupted-again : tie.Need-loop-again-2 Inv-loop μ-loop
 interrupted-again c =
     let after-read = c .before .before .before .before in
     let in-loop = after-read .before .before .before .before in
-    none-more (in-loop .loop .inv) (after-read .read-once .ensures .reads) (ap put (c .enum-told2 .given .1))
+    none-more (in-loop .loop .inv) (read-as (c .enum-told2 .given .1) (after-read .read-once .ensures))
 
 read-failed : tie.Need-returns-2 Inv-loop μ-loop
 read-failed c =
     let after-read = c .before .before .before .before .before in
     let in-loop = after-read .before .before .before .before in
-    handed-nothing _ _ (c .failed .ensures) (after-read .read-once .ensures .reads .as-long ∙ in-loop .loop .inv .as-long)
+    handed-nothing _ _ (c .failed .ensures) (after-read .read-once .ensures .as-long ∙ in-loop .loop .inv .as-long)
 
 pub read-input-spec : {M : Type 1} → statement M
 read-input-spec =
@@ -88,4 +88,4 @@ read-input-spec =
     (λ c. search needs)
     (λ c. handed-nothing _ _ (c .failed2 .ensures) (c .before .before .before .loop .inv .as-long))
     (λ c. search needs)
-    (λ c. handed-on (c .before .before .loop .inv)))
+    (λ c. filled (c .before .before .loop .inv) (omega arith)))

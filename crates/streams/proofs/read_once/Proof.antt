@@ -1,30 +1,27 @@
--- A read into the part of the buffer from the place on.
-use native.Mathlib.Omega.{arith}
+-- A read into the part of the buffer from the place on, and what its answer tells.
+use mathlib.Core.Path.{sym}
+use mir.Syntax.{w64}
+use mir.Val.{ofZ, toZ}
 use borrow.Author.Needs.{needs}
+use Rattle.streams.proofs.Answers.{moved, told}
 use Rattle.streams.proofs.Reading.{read-at}
 use Rattle.streams.proofs.read_once.Statement.{statement}
 use Rattle.streams.proofs.read_once.Tie as tie
 
+told-requires : tie.Need-told-requires
+told-requires c κs =
+    let read = c .before .before .before .read in moved (read .result) _ _ (record { sfits = read .ok }) (sym (read .kept .1 .0)) (read .ensures)
+
 returns : tie.Need-returns
 returns c =
-    let at-entry = c .before .before .before .before .before .before .before .before .before .before .before .before in
-    let after-read = c .before .before .before .before .before .before .before .before .read in
-    let none = c .nothing .ensures in
-    record {
-      some = none .1;
-      reads = read-at (at-entry .args .buf .now) (after-read .last .1 .0) (at-entry .args .at) _ (at-entry .pre)
-          (after-read .kept .1 .0) (omega (arith, none .0));
-    }
-
-returns-2 : tie.Need-returns-2
-returns-2 c =
-    let at-entry = c .before .before .before .before .before .before .before .before .before .before .before in
-    let after-read = c .before .before .before .before .before .before .before .read in
-    record {
-      some = omega arith;
-      reads = read-at (at-entry .args .buf .now) (after-read .last .1 .0) (at-entry .args .at) _ (at-entry .pre)
-          (after-read .kept .1 .0) (c .before .before .before .count .ensures .0 .0);
-    }
+    let after-told = c .before .before in
+    let after-read = after-told .before .before .before .before in
+    let at-entry = after-read .before .before .before .before in
+    let read = after-read .read in
+    let answer = told (toZ w64 (ofZ w64 (read .result))) _ (after-told .told .result) (told-requires (after-told .before) (after-told .told .lifetimes))
+    (after-told .told .ensures) in
+    read-at (at-entry .args .buf .now) (read .last .1 .0) (at-entry .args .at) (after-told .told .result) (at-entry .pre)
+    (read .kept .1 .0) (answer .some) (answer .few)
 
 pub read-once-spec : {M : Type 1} → statement M
 read-once-spec =
@@ -34,9 +31,6 @@ read-once-spec =
     (λ c. search needs)
     (λ c. search needs)
     (λ c κs. search needs)
-    (λ c κs. search needs)
-    (λ c κs. search needs)
+    told-requires
     (λ c. search needs)
-    returns
-    (λ c. search needs)
-    returns-2)
+    returns)

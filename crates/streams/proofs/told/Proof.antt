@@ -1,0 +1,34 @@
+-- Each answer tells what it says.
+use native.Mathlib.Omega.{arith}
+use borrow.Author.Needs.{needs}
+use Rattle.streams.specs.declared.Got.the-variants.{Interrupted, Failed}
+use Rattle.streams.proofs.Answers.{counted, tells-end, tells-bytes, tells-failure}
+use Rattle.streams.proofs.told.Statement.{statement}
+use Rattle.streams.proofs.told.Tie as tie
+
+end : tie.Need-returns
+end c = let at-entry = c .before .before in tells-end (at-entry .args .got) (at-entry .fits .got) (omega (arith, c .if1 .taken))
+
+bytes : tie.Need-returns-2
+bytes c =
+    let after-count = c .before in
+    let at-entry = after-count .before .before .before in
+    tells-bytes (at-entry .args .got) _ _ (at-entry .pre) (counted _ _ _ (at-entry .fits .got) (after-count .count .ensures .1)) (c .if2 .taken)
+
+interrupted : tie.Need-returns-3
+interrupted c =
+    let after-count = c .before .before .before in
+    let at-entry = after-count .before .before .before in
+    tells-failure (at-entry .args .got) _ _ Interrupted tt (at-entry .pre) (counted _ _ _ (at-entry .fits .got) (after-count .count .ensures .1)) (omega (arith, c .before .before .if2 .left))
+    (λ is. after-count .before .if1 .left (omega (arith, is)))
+
+failed : tie.Need-returns-4
+failed c =
+    let after-count = c .before .before .before in
+    let at-entry = after-count .before .before .before in
+    tells-failure (at-entry .args .got) _ _ Failed tt (at-entry .pre) (counted _ _ _ (at-entry .fits .got) (after-count .count .ensures .1)) (omega (arith, c .before .before .if2 .left))
+    (λ is. after-count .before .if1 .left (omega (arith, is)))
+
+pub told-spec : {M : Type 1} → statement M
+told-spec =
+    tie.close (tie.spec end (λ c κs. search needs) bytes (λ c κs. search needs) interrupted failed)
