@@ -13,7 +13,8 @@ bytes : tie.Need-returns-2
 bytes c =
     let after-count = c .before in
     let at-entry = after-count .before .before .before in
-    tells-bytes (at-entry .args .got) _ _ (at-entry .pre) (counted _ _ _ (at-entry .fits .got) (after-count .count .ensures .1)) (c .if2 .taken)
+    tells-bytes (at-entry .args .got) _ _ (at-entry .pre) (counted _ _ _ (at-entry .fits .got) (after-count .count .ensures .1))
+    (λ none. c .if2 .taken (omega (arith, none)))
 
 interrupted : tie.Need-returns-3
 interrupted c =
