@@ -1,18 +1,13 @@
 // Drives the other side's probe, score and ledger as child processes with seeded inputs and compares
-// every answer word and all lent memory with our own; tells the first difference of each group.
+// every answer word, all lent memory and the processes' ends with our own; tells each group's first difference.
 
+use crate::drive::{drive, our_own, Did, End};
 use crate::inputs::{program_sheets, wire_streams, Group, GROUPS};
 use crate::probe::{answer, op, probe, put_call, shape, to_bytes, Call, Words};
 use crate::programs::{ledger, score};
 use crate::random::Random;
 use crate::tell;
-use std::io::{Read, Write};
-use std::process::{Command, Stdio};
-use std::sync::mpsc::channel;
-use std::thread;
-use std::time::Duration;
 
-const LONGEST_WAIT: Duration = Duration::from_secs(900);
 const LONGEST_BUFFER: usize = 20_000;
 
 /// Cases and differences of one group so far.
@@ -74,18 +69,20 @@ fn compare_group(group: &Group, random: &mut Random, full: bool, command: &[Stri
     count.print()
 }
 
-/// One probe process for all these calls.
+/// One probe process for all these calls; its end counts with the last one.
 fn compare_calls(calls: &[Call], count: &mut Count, command: &[String]) {
     let mut words = Vec::new();
     calls.iter().for_each(|call| put_call(call, &mut words));
-    let output = drive(command, "probe", to_bytes(&words));
-    let mut stream = Words::new(&output);
+    let (good, did) = (End::good(), drive(command, "probe", to_bytes(&words)));
+    let mut stream = Words::new(&did.output);
     for (at, call) in calls.iter().enumerate() {
         let ours = answer(call.clone());
         let theirs = take_answer(&mut stream, op(call));
-        let more = at + 1 == calls.len() && stream.bytes_left() > 0;
-        let differs = theirs.as_ref() != Some(&ours) || more;
-        count.case(differs.then_some(|| tell::difference(call, &ours, theirs.as_deref(), more)));
+        let last = at + 1 == calls.len();
+        let more = last && stream.bytes_left() > 0;
+        let differs = theirs.as_ref() != Some(&ours) || more || (last && !did.end.alike(&good));
+        let text = || tell::difference(call, &ours, theirs.as_deref(), more) + &tell::ends(&good, &did.end);
+        count.case(differs.then_some(text));
     }
 }
 
@@ -109,9 +106,9 @@ fn compare_programs(random: &mut Random, full: bool, command: &[String]) -> Coun
     let mut count = Count::new("programs");
     for sheet in program_sheets(random, if full { 70 } else { 12 }) {
         for (name, program) in [("score", score as fn(&[u8]) -> Vec<u8>), ("ledger", ledger)] {
-            let ours = program(&sheet);
+            let ours = Did { output: program(&sheet), end: End::good() };
             let theirs = drive(command, name, sheet.clone());
-            count.case((ours != theirs).then_some(|| tell::texts(name, &sheet, &ours, &theirs)));
+            count.case((!theirs.alike(&ours)).then_some(|| tell::texts(name, &sheet, &ours, &theirs)));
         }
     }
     count.print()
@@ -119,48 +116,32 @@ fn compare_programs(random: &mut Random, full: bool, command: &[String]) -> Coun
 
 fn compare_wire(random: &mut Random, full: bool, command: &[String]) -> Count {
     let mut count = Count::new("wire");
-    for input in wire_streams(random, if full { 36 } else { 22 }) {
-        let mut ours = Vec::new();
-        let written = probe(&input, &mut ours);
-        assert!(written.is_ok(), "memory takes all");
+    for input in wire_streams(random, if full { 40 } else { 26 }) {
+        let ours = our_own(probe, &input);
         let theirs = drive(command, "probe", input.clone());
-        count.case((ours != theirs).then_some(|| tell::streams(&input, &ours, &theirs)));
+        count.case((!theirs.alike(&ours)).then_some(|| tell::streams(&input, &ours, &theirs)));
     }
     count.print()
 }
 
-// ---- the other side ----
+#[cfg(test)]
+mod tests {
+    use super::*;
 
-/// Runs `COMMAND... program` over the input: written by one thread, read by another.
-fn drive(command: &[String], program: &str, input: Vec<u8>) -> Vec<u8> {
-    let started = Command::new(&command[0])
-        .args(&command[1..])
-        .arg(program)
-        .stdin(Stdio::piped())
-        .stdout(Stdio::piped())
-        .stderr(Stdio::null())
-        .spawn();
-    let mut child = started.unwrap_or_else(|why| stop(&format!("cannot start {command:?}: {why}")));
-    let (Some(mut stdin), Some(mut stdout)) = (child.stdin.take(), child.stdout.take()) else {
-        stop("a child without pipes");
-    };
-    let writer = thread::spawn(move || stdin.write_all(&input).is_ok());
-    let (done, output) = channel();
-    let reader = thread::spawn(move || {
-        let mut bytes = Vec::new();
-        let whole = stdout.read_to_end(&mut bytes).is_ok();
-        let _ = done.send((whole, bytes));
-    });
-    let (_, bytes) = output.recv_timeout(LONGEST_WAIT).unwrap_or_else(|_| {
-        println!("the child of {command:?} {program} does not end, it is stopped");
-        let _ = child.kill();
-        (false, Vec::new())
-    });
-    let _ = (child.wait(), writer.join(), reader.join());
-    bytes
-}
+    /// Two checks of nothing, both refused 3, against a shell that answers so and then ends as it is told.
+    fn two_checks(ending: &str) -> (usize, usize) {
+        let text = format!("cat >/dev/null; printf '\\003\\000\\000\\000\\003\\000\\000\\000'; {ending}");
+        let command = ["sh", "-c", text.as_str(), "sh"].map(str::to_string);
+        let mut count = Count::new("checks");
+        compare_calls(&[Call::Check { dir: vec![] }, Call::Check { dir: vec![] }], &mut count, &command);
+        (count.cases, count.differences)
+    }
 
-fn stop(why: &str) -> ! {
-    println!("{why}");
-    std::process::exit(1)
+    #[test]
+    fn the_end_of_a_probe_counts_with_its_last_call() {
+        assert_eq!(two_checks("exit 0"), (2, 0));
+        for ending in ["exit 1", "echo broken >&2", "echo broken >&2; exit 1", "kill -9 $$", "printf x"] {
+            assert_eq!(two_checks(ending), (2, 1), "{ending}");
+        }
+    }
 }

@@ -398,9 +398,9 @@ pub fn program_sheets(random: &mut Random, count: usize) -> Vec<Vec<u8>> {
 
 // ---- wire ----
 
-/// Streams that stop in the middle, or hold a call that cannot be read; and one of 100,000 calls.
+/// Streams that end well, stop in the middle, or hold a call that cannot be read.
 pub fn wire_streams(random: &mut Random, count: usize) -> Vec<Vec<u8>> {
-    let mut streams = vec![vec![], to_bytes(&[2, 0].repeat(100_000))];
+    let mut streams = ended_streams(random);
     let unreadable: [&[u32]; 18] = [
         &[0], &[8], &[u32::MAX], &[1, 1, 1, 4201], &[2, 4201], &[2, u32::MAX], &[3, 1 << 30], &[4, 0, 1101], &[4, 0, 0, 4501],
         &[5, 17001], &[5, 0, 1101], &[5, 1, 256], &[6, 2, 61, 266], &[6, 17001], &[7, 1, 1, 1, 1, 1, 1, 1, 1, 1, 401],
@@ -423,6 +423,15 @@ pub fn wire_streams(random: &mut Random, count: usize) -> Vec<Vec<u8>> {
     streams
 }
 
+/// No call, 100,000 calls, these and one that cannot be read but need not be; whole calls, and 1 or 3 bytes more.
+fn ended_streams(random: &mut Random) -> Vec<Vec<u8>> {
+    let many = [2, 0].repeat(100_000);
+    let over = [&many[..], &[8]].concat();
+    let whole = to_bytes(&few_calls(random));
+    let (one, three) = ([&whole[..], &[2]].concat(), [&whole[..], &[2, 0, 0]].concat());
+    vec![vec![], to_bytes(&many), to_bytes(&over), whole, one, three]
+}
+
 /// One or two calls of each group.
 fn few_calls(random: &mut Random) -> Vec<u32> {
     let mut words = Vec::new();
@@ -437,6 +446,7 @@ fn few_calls(random: &mut Random) -> Vec<u32> {
 mod tests {
     use super::*;
     use crate::directory::check;
+    use crate::probe::probe;
 
     #[test]
     fn odd_directories_are_sound_and_stay_so() {
@@ -499,6 +509,17 @@ mod tests {
         }
         println!("{evicting} {kinds:?}");
         assert!(evicting > 5 && kinds.iter().all(|&count| count > 0));
+    }
+
+    #[test]
+    fn streams_end_in_both_ways() {
+        let streams = wire_streams(&mut Random::new(8), 40);
+        let error = |stream: &Vec<u8>| probe(stream, &mut Vec::new()).map_or_else(|why| why.to_string(), |()| String::new());
+        let errors: Vec<String> = streams.iter().map(error).collect();
+        assert_eq!(streams.len(), 40);
+        assert_eq!(errors[..4], ["", "", "", ""]);
+        assert!(errors[4..24].iter().all(|text| text.ends_with(" cannot be read")), "{errors:?}");
+        assert!(streams[24..].iter().any(|stream| stream.len() % 4 != 0));
     }
 
     #[test]

@@ -4,6 +4,7 @@
 mod bids;
 mod compare;
 mod directory;
+mod drive;
 mod inputs;
 mod probe;
 mod programs;
@@ -48,15 +49,17 @@ fn usage() -> ExitCode {
     ExitCode::from(2)
 }
 
-/// All of standard input through the program to standard output.
-fn over_standard(program: fn(&[u8], &mut dyn Write) -> std::io::Result<()>) -> ExitCode {
+/// All of standard input through the program to standard output; what it cannot do is one line on
+/// standard error and status 1, after all that it could.
+fn over_standard(program: drive::Program) -> ExitCode {
     let mut input = Vec::new();
-    let read = std::io::stdin().read_to_end(&mut input);
     let mut output = BufWriter::new(std::io::stdout().lock());
-    let written = program(&input, &mut output);
-    if read.is_ok() && written.is_ok() && output.flush().is_ok() {
-        ExitCode::SUCCESS
-    } else {
-        ExitCode::FAILURE
+    let read = std::io::stdin().read_to_end(&mut input);
+    let done = read.and_then(|_| program(&input, &mut output));
+    let flushed = output.flush();
+    if let Err(why) = done.and(flushed) {
+        eprintln!("{why}");
+        return ExitCode::FAILURE;
     }
+    ExitCode::SUCCESS
 }

@@ -1,12 +1,12 @@
 // The probe's wire form: calls and answers as little-endian 32-bit words, a buffer as its length
-// and its elements; and the probe itself, which answers calls until the first it cannot read.
+// and its elements; and the probe itself, which answers calls until the end or the first it cannot read.
 
 use crate::directory::{check, fresh};
 use crate::request::request;
 use crate::result::{write_result, Outcome};
 use crate::run::run;
 use crate::sheet::{look_up, read_sheet};
-use std::io::Write;
+use std::io::{Error, ErrorKind, Write};
 
 pub const LONGEST_DIR: usize = 4200;
 pub const LONGEST_PAGES: usize = 1100;
@@ -204,27 +204,37 @@ fn joined(numbers: &[u32], buffers: &[&[u32]]) -> Vec<u32> {
     words
 }
 
-/// The probe: answers until the end or the first call that cannot be read, at most 100,000 calls.
-/// Each answer goes out before the next call, so a probe that breaks off has given what came before.
+/// The probe: answers until the end of the input or the 100,000th call. Each answer goes out before the
+/// next call, so a probe that breaks off has given what came before; a call that cannot be read is an error.
 pub fn probe(input: &[u8], output: &mut dyn Write) -> std::io::Result<()> {
     let mut words = Words::new(input);
-    for _ in 0..MOST_CALLS {
-        let Some(call) = read_call(&mut words) else {
+    for number in 1..=MOST_CALLS {
+        if words.bytes_left() == 0 {
             break;
+        }
+        let Some(call) = read_call(&mut words) else {
+            return Err(Error::new(ErrorKind::InvalidData, format!("call {number} cannot be read")));
         };
         output.write_all(&to_bytes(&answer(call)))?;
     }
-    output.flush()
+    Ok(())
 }
 
 #[cfg(test)]
 mod tests {
     use super::*;
 
-    fn probed(words: &[u32]) -> Vec<u32> {
+    /// The words answered, and what stands on standard error (nothing if the probe ends well).
+    fn told(bytes: &[u8]) -> (Vec<u32>, String) {
         let mut output = Vec::new();
-        probe(&to_bytes(words), &mut output).unwrap();
-        output.chunks(4).map(|word| u32::from_le_bytes(word.try_into().unwrap())).collect()
+        let error = probe(bytes, &mut output).map_or_else(|why| why.to_string(), |()| String::new());
+        (output.chunks(4).map(|word| u32::from_le_bytes(word.try_into().unwrap())).collect(), error)
+    }
+
+    fn probed(words: &[u32]) -> Vec<u32> {
+        let (answers, error) = told(&to_bytes(words));
+        assert_eq!(error, "");
+        answers
     }
 
     #[test]
@@ -240,16 +250,28 @@ mod tests {
     }
 
     #[test]
-    fn stops_where_it_cannot_read() {
+    fn ends_well_at_the_end_of_a_call() {
         assert_eq!(probed(&[]), []);
-        assert_eq!(probed(&[2, 0, 8, 0, 2, 0]), [3]);
-        assert_eq!(probed(&[2, 0, 2, 1]), [3]);
-        assert_eq!(probed(&[2, 0, 2, 4201]), [3]);
-        assert_eq!(probed(&[2, 0, 6, 1, 256, 1]), [3]);
-        let mut output = Vec::new();
-        probe(&[2, 0, 0, 0, 0, 0, 0], &mut output).unwrap();
-        assert_eq!(output, []);
-        assert_eq!(probed(&[2, 0].repeat(MOST_CALLS + 5)).len(), MOST_CALLS);
+        assert_eq!(probed(&[2, 0, 2, 0]), [3, 3]);
+        let many = [2, 0].repeat(MOST_CALLS);
+        assert_eq!(probed(&many).len(), MOST_CALLS);
+        assert_eq!(probed(&[&many[..], &[8, 2, 0]].concat()).len(), MOST_CALLS);
+        assert_eq!(told(&[&to_bytes(&many)[..], &[2]].concat()).1, "");
+    }
+
+    #[test]
+    fn breaks_off_where_it_cannot_read() {
+        let broken = (vec![3], "call 2 cannot be read".to_string());
+        for words in [&[8, 0, 2, 0][..], &[0], &[2], &[2, 1], &[2, 4201], &[3, 0], &[4, 0, 1101], &[6, 1, 256, 1], &[7, 1]] {
+            assert_eq!(told(&to_bytes(&[&[2, 0], words].concat())), broken, "{words:?}");
+        }
+        let bytes = to_bytes(&[2, 0, 2, 0]);
+        for length in 9..16 {
+            assert_eq!(told(&bytes[..length]), broken, "{length}");
+        }
+        assert_eq!(told(&bytes[..7]), (vec![], "call 1 cannot be read".to_string()));
+        let last = to_bytes(&[2, 0].repeat(MOST_CALLS));
+        assert_eq!(told(&last[..last.len() - 1]).1, "call 100000 cannot be read");
     }
 
     #[test]

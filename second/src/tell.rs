@@ -1,11 +1,13 @@
-// Tells a difference readably: the op, its arguments, the first differing word and what it means.
-// Long buffers are shortened, bytes are shown as text with escapes.
+// Tells a difference readably: the op, its arguments, the first differing word and what it means, how both
+// sides ended. Long buffers are shortened, bytes are shown as text with escapes.
 
 use crate::directory::{check, decode, Directory, Entry, HEADER};
+use crate::drive::{Did, End, Status};
 use crate::probe::{op, Call};
 
 const SHOWN_WORDS: usize = 80;
 const SHOWN_BYTES: usize = 1200;
+const SHOWN_ANSWER: usize = 40;
 
 /// A call whose answers differ; `more` when the other side goes on after the last answer.
 pub fn difference(call: &Call, ours: &[u32], theirs: Option<&[u32]>, more: bool) -> String {
@@ -24,32 +26,58 @@ pub fn difference(call: &Call, ours: &[u32], theirs: Option<&[u32]>, more: bool)
     text + &format!("  ours:   {}\n  theirs: {}", words(ours), words(theirs))
 }
 
-/// Two outputs of score or ledger.
-pub fn texts(name: &str, sheet: &[u8], ours: &[u8], theirs: &[u8]) -> String {
-    let at = first_byte(ours, theirs);
+/// What score or ledger did on both sides.
+pub fn texts(name: &str, sheet: &[u8], ours: &Did, theirs: &Did) -> String {
     format!(
-        "  {name}, sheet of {} bytes: {}\n  first differing byte {at}\n  ours:   {}\n  theirs: {}",
+        "  {name}, sheet of {} bytes: {}\n  {}\n  ours:   {}\n  theirs: {}{}",
         sheet.len(),
         bytes(sheet),
-        bytes(ours),
-        bytes(theirs)
+        outputs(ours, theirs),
+        bytes(&ours.output),
+        bytes(&theirs.output),
+        ends(&ours.end, &theirs.end)
     )
 }
 
-/// Two output streams of the probe.
-pub fn streams(input: &[u8], ours: &[u8], theirs: &[u8]) -> String {
-    let (at, from) = (first_byte(ours, theirs), input.len().saturating_sub(40));
+/// What the probe did on both sides.
+pub fn streams(input: &[u8], ours: &Did, theirs: &Did) -> String {
+    let from = first_byte(ours, theirs);
+    let shown = |did: &Did| format!("{:?}", &did.output[from..did.output.len().min(from + SHOWN_ANSWER)]);
     format!(
-        "  stream of {} bytes, its last ones {:?}\n  first differing byte {at}; ours has {} bytes, theirs {}",
+        "  stream of {} bytes, its last ones {:?}\n  {}\n  ours from there:   {}\n  theirs from there: {}{}",
         input.len(),
-        &input[from..],
-        ours.len(),
-        theirs.len()
+        &input[input.len().saturating_sub(40)..],
+        outputs(ours, theirs),
+        shown(ours),
+        shown(theirs),
+        ends(&ours.end, &theirs.end)
     )
 }
 
-fn first_byte(ours: &[u8], theirs: &[u8]) -> usize {
-    ours.iter().zip(theirs).take_while(|(one, two)| one == two).count()
+/// Standard error and status of both sides.
+pub fn ends(ours: &End, theirs: &End) -> String {
+    format!("\n  end of ours:   {}\n  end of theirs: {}", end(ours), end(theirs))
+}
+
+fn end(end: &End) -> String {
+    let status = match end.status {
+        Status::Number(number) => format!("status {number}"),
+        Status::Signal(signal) => format!("ended by signal {signal}"),
+        Status::Stopped => "did not end and was stopped".to_string(),
+    };
+    format!("standard error {}, {status}", bytes(&end.error))
+}
+
+fn outputs(ours: &Did, theirs: &Did) -> String {
+    let (one, two) = (ours.output.len(), theirs.output.len());
+    if ours.output == theirs.output {
+        return format!("the outputs of {one} bytes are equal");
+    }
+    format!("first differing byte {}; ours has {one} bytes, theirs {two}", first_byte(ours, theirs))
+}
+
+fn first_byte(ours: &Did, theirs: &Did) -> usize {
+    ours.output.iter().zip(&theirs.output).take_while(|(one, two)| one == two).count()
 }
 
 fn arguments(call: &Call) -> String {
@@ -164,5 +192,20 @@ mod tests {
         let text = difference(&call, &ours, Some(&theirs), false);
         assert!(text.contains("request page=6 on policy=2 c=1 p=0 q=0 T1=[5L] T2=[] B1=[] B2=[]"), "{text}");
         assert!(text.contains("word 4 (hand moves): ours 2, theirs 3"), "{text}");
+    }
+    #[test]
+    fn both_ends_are_told() {
+        let ours = Did { output: b"hits=2\n".to_vec(), end: End::good() };
+        let mut theirs = ours.clone();
+        theirs.end = End { error: b"late\n".to_vec(), status: Status::Number(1) };
+        let text = texts("score", b"policy", &ours, &theirs);
+        assert!(text.starts_with("  score, sheet of 6 bytes: \"policy\"\n  the outputs of 7 bytes are equal\n"), "{text}");
+        let told = "  end of ours:   standard error \"\", status 0\n  end of theirs: standard error \"late\\n\", status 1";
+        assert!(text.ends_with(told), "{text}");
+        theirs = Did { output: b"hits=3".to_vec(), end: End { error: vec![], status: Status::Signal(9) } };
+        let text = streams(&[1, 2], &ours, &theirs);
+        assert!(text.contains("first differing byte 5; ours has 7 bytes, theirs 6\n"), "{text}");
+        assert!(text.contains("ours from there:   [50, 10]\n  theirs from there: [51]\n"), "{text}");
+        assert!(text.ends_with("end of theirs: standard error \"\", ended by signal 9"), "{text}");
     }
 }

@@ -1,0 +1,54 @@
+// The built program's own ends: output, standard error and status of probe, score and ledger
+// as processes, on inputs that can be read whole and on those that cannot.
+
+use std::io::Write;
+use std::process::{Command, Stdio};
+
+/// Standard output, the line feeds on standard error, and the status.
+fn ran(program: &str, input: &[u8]) -> (Vec<u8>, usize, Option<i32>) {
+    let mut child = Command::new(env!("CARGO_BIN_EXE_second"))
+        .arg(program)
+        .stdin(Stdio::piped())
+        .stdout(Stdio::piped())
+        .stderr(Stdio::piped())
+        .spawn()
+        .unwrap();
+    child.stdin.take().unwrap().write_all(input).unwrap();
+    let done = child.wait_with_output().unwrap();
+    assert!(done.stderr.is_empty() || done.stderr.ends_with(b"\n"));
+    (done.stdout, done.stderr.iter().filter(|&&byte| byte == b'\n').count(), done.status.code())
+}
+
+fn bytes(words: &[u32]) -> Vec<u8> {
+    words.iter().flat_map(|word| word.to_le_bytes()).collect()
+}
+
+#[test]
+fn a_probe_that_ends_well() {
+    assert_eq!(ran("probe", b""), (vec![], 0, Some(0)));
+    assert_eq!(ran("probe", &bytes(&[2, 0, 2, 0])), (bytes(&[3, 3]), 0, Some(0)));
+    let over = bytes(&[&[2, 0].repeat(100_000)[..], &[8]].concat());
+    assert_eq!(ran("probe", &over), (bytes(&[3].repeat(100_000)), 0, Some(0)));
+}
+
+#[test]
+fn a_probe_that_breaks_off() {
+    let unreadable: [&[u32]; 6] = [&[2], &[2, 1], &[8], &[2, 4201], &[6, 1, 256, 1], &[5, 17_001]];
+    for words in unreadable {
+        let input = bytes(&[&[2, 0], words].concat());
+        assert_eq!(ran("probe", &input), (bytes(&[3]), 1, Some(1)), "{words:?}");
+    }
+    assert_eq!(ran("probe", &[2, 0, 0, 0, 0, 0, 0, 0, 2]), (bytes(&[3]), 1, Some(1)));
+    assert_eq!(ran("probe", &[2]), (vec![], 1, Some(1)));
+}
+
+#[test]
+fn a_refused_sheet_is_an_answer() {
+    for program in ["score", "ledger"] {
+        assert_eq!(ran(program, b""), (b"refused=8\nline=1\n".to_vec(), 0, Some(0)));
+        assert_eq!(ran(program, &[0; 40_000]), (b"refused=7\nline=0\n".to_vec(), 0, Some(0)));
+        let (output, line_feeds, status) = ran(program, b"policy=\npages=1\nmisscost=0,001\npage=5\n");
+        assert!(output.starts_with(b"policy=car\npages=1\nrequests=1\nhits=0\nmisses=1\n"));
+        assert_eq!((line_feeds, status), (0, Some(0)));
+    }
+}
