@@ -13,7 +13,8 @@ pub fn worked() -> Vec<u8> {
     good_of("car", "2", "1,250", &[1, 2, 1, 3, 2, 1, 4, 2])
 }
 
-fn good_of(policy: &str, pages: &str, cost: &str, trace: &[u32]) -> Vec<u8> {
+/// A good sheet of these values and pages.
+pub fn good_of(policy: &str, pages: &str, cost: &str, trace: &[u32]) -> Vec<u8> {
     let mut lines = vec![format!("policy={policy}"), format!("pages={pages}"), format!("misscost={cost}")];
     lines.extend(trace.iter().map(|page| format!("page={page}")));
     of_lines(&lines)
@@ -50,8 +51,12 @@ pub fn good(random: &mut Random) -> Vec<u8> {
     let kinds = random.within(1, 3 * c.min(12));
     let count = random.pick(&[0, 1, 2, 5, 10, 20, 40, 80]);
     let trace: Vec<u32> = (0..count).map(|_| page(random, kinds)).collect();
-    let cost = format!("{},{:03}", random.pick(&[0, 1, 9, 10, 99, 100, 999, 1000, 9999]), random.below(1000));
+    let cost = good_cost(random);
     good_of(random.pick(&["car", "cart", ""]), &c.to_string(), &cost, &trace)
+}
+
+pub fn good_cost(random: &mut Random) -> String {
+    format!("{},{:03}", random.pick(&[0, 1, 9, 10, 99, 100, 999, 1000, 9999]), random.below(1000))
 }
 
 fn page(random: &mut Random, kinds: usize) -> u32 {

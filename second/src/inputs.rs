@@ -2,10 +2,10 @@
 // and the cut or unreadable streams for the wire.
 
 use crate::bids;
-use crate::directory::{decode, fresh, words_for, Directory, Entry, CAR, HEADER, LARGEST_C};
+use crate::directory::{decode, fresh, words_for, Directory, Entry, CAR, CART, HEADER, LARGEST_C};
 use crate::probe::{put_call, to_bytes, Call};
 use crate::random::Random;
-use crate::request::request;
+use crate::request::{request, serve};
 use crate::result::Outcome;
 use crate::run::run;
 
@@ -376,24 +376,70 @@ fn wait(random: &mut Random) -> u64 {
 
 // ---- programs ----
 
-/// Sheets for score and ledger: the worked one and the limits first.
-pub fn program_sheets(random: &mut Random, count: usize) -> Vec<Vec<u8>> {
+/// Sheets for score and ledger: the worked one and the limits, then so many freely drawn ones.
+pub fn program_sheets(random: &mut Random, drawn: usize) -> Vec<Vec<u8>> {
     let mut sheets = vec![bids::worked(), vec![], bids::of_length(16000), bids::of_length(16001)];
     let mut over = bids::worked();
     over.resize(40_000, b'\n');
     sheets.extend([over, bids::of_pages(random, 1000), bids::of_pages(random, 1001), vec![b'='; 17_000], vec![b'\n'; 100_000]]);
-    while sheets.len() < count {
-        let sheet = match random.below(10) {
-            0 => bids::long(random),
-            1 => bids::many_pages(random),
-            2..=4 => bids::of_pages(random, 300),
-            5..=6 => bids::good(random),
-            _ => bids::any_short(random),
-        };
-        sheets.push(sheet);
-    }
-    sheets.truncate(count);
+    sheets.extend((0..drawn).map(|_| drawn_sheet(random)));
     sheets
+}
+
+/// The larger part good sheets whose replay evicts, the others good, damaged, full and long ones.
+fn drawn_sheet(random: &mut Random) -> Vec<u8> {
+    match random.below(100) {
+        0..=59 => evicting_sheet(random),
+        60..=64 => {
+            let count = random.within(0, 1000);
+            bids::of_pages(random, count)
+        }
+        65..=69 => bids::good(random),
+        70..=79 => bids::odd_value(random),
+        80..=84 => bids::byte_damage(random),
+        85..=89 => bids::line_damage(random),
+        90..=92 => bids::two_wrong(random),
+        93..=96 => bids::many_pages(random),
+        _ => bids::long(random),
+    }
+}
+
+/// A sheet of 2 to 1,000 pages with a c below their count (refused 7 only with some 998 long numbers or more).
+fn evicting_sheet(random: &mut Random) -> Vec<u8> {
+    let count = match random.below(20) {
+        0 => 1000,
+        1..=5 => random.within(2, 60),
+        _ => random.within(61, 1000),
+    };
+    let c = match random.below(10) {
+        0..=4 => random.within(1, count.min(13) - 1),
+        5..=7 => random.within(1, count / 3 + 1),
+        _ => random.within(1, count - 1),
+    };
+    let (name, policy) = random.pick(&[("car", CAR), ("", CAR), ("cart", CART), ("cart", CART)]);
+    let trace = evicting_trace(random, decode(&fresh_directory(policy, c as u32)), count);
+    bids::good_of(name, &c.to_string(), &bids::good_cost(random), &trace)
+}
+
+/// Pages served as they are drawn: listed ones, those of the histories, new ones in a row or of few kinds.
+fn evicting_trace(random: &mut Random, mut d: Directory, count: usize) -> Vec<u32> {
+    let c = d.c as usize;
+    let kinds = random.within(c + 1, 3 * c) as u32;
+    let large = 3 * c > count;
+    let in_a_row = random.chance(if large { 90 } else { 30 });
+    let hits = if large { random.pick(&[1, 5, 20]) } else { random.pick(&[5, 20, 35, 60]) };
+    let history = random.pick(&[0, 15, 35]);
+    let first = random.pick(&[0, 1, 1000, u32::MAX - kinds.max(count as u32)]);
+    let any = random.word() | 1;
+    let factor = random.pick(&[1, 1, any]);
+    let mut trace = Vec::with_capacity(count);
+    for at in 0..count as u32 {
+        let (from, kinds) = if in_a_row { (first + at, 1) } else { (first, kinds) };
+        let page = next_page(random, &d, hits, history, from, kinds);
+        serve(&mut d, page);
+        trace.push(page.wrapping_mul(factor));
+    }
+    trace
 }
 
 // ---- wire ----
@@ -447,6 +493,10 @@ mod tests {
     use super::*;
     use crate::directory::check;
     use crate::probe::probe;
+    use crate::programs::score;
+    use crate::sheet::read_sheet;
+
+    const LISTED: usize = 9;
 
     #[test]
     fn odd_directories_are_sound_and_stay_so() {
@@ -509,6 +559,41 @@ mod tests {
         }
         println!("{evicting} {kinds:?}");
         assert!(evicting > 5 && kinds.iter().all(|&count| count > 0));
+    }
+
+    #[test]
+    fn most_drawn_sheets_are_accepted_and_evict() {
+        for seed in 1..=6 {
+            let sheets = program_sheets(&mut Random::new(seed), 150).split_off(LISTED);
+            let texts: Vec<String> = sheets.iter().map(|sheet| String::from_utf8(score(sheet)).unwrap()).collect();
+            let accepted: Vec<&String> = texts.iter().filter(|text| text.starts_with("policy=")).collect();
+            let evicting = accepted.iter().filter(|text| !text.contains("\nevictions=0\n")).count();
+            println!("{} drawn, {} accepted, {evicting} with evictions", texts.len(), accepted.len());
+            assert!(texts.len() == 150 && accepted.len() >= 75 && evicting >= 50);
+        }
+    }
+
+    /// Every refusal of a sheet; and among those that evict, every kind of both policies and every size of c and length.
+    #[test]
+    fn drawn_sheets_are_of_all_kinds() {
+        let (mut refusals, mut kinds, mut sizes) = ([0; 10], [[0; 5]; 3], [[0; 5]; 2]);
+        for sheet in program_sheets(&mut Random::new(3), 700).split_off(LISTED) {
+            let mut pages = vec![0; 1000];
+            let number = read_sheet(&sheet, &mut pages).map_or_else(|refused| refused.number, |_| 0);
+            refusals[number as usize] += 1;
+            let Ok(bid) = read_sheet(&sheet, &mut pages) else { continue };
+            let (mut dir, mut answers) = (fresh_directory(bid.policy, bid.c), vec![0; 4000]);
+            if run(&mut dir, &pages[..bid.count as usize], &mut answers).1.evictions == 0 {
+                continue;
+            }
+            (0..bid.count as usize).for_each(|at| kinds[bid.policy as usize][answers[4 * at] as usize] += 1);
+            sizes[0][(bid.count as usize - 1) / 200] += 1;
+            sizes[1][[1, 12, 100, 300].iter().filter(|&&below| bid.c > below).count()] += 1;
+        }
+        println!("refusals {refusals:?} kinds {kinds:?} lengths and sizes {sizes:?}");
+        assert!([1, 2, 5, 7, 8, 9].iter().all(|&number| refusals[number] > 0), "{refusals:?}");
+        assert!(kinds[1..].iter().flatten().all(|&count| count > 1000), "{kinds:?}");
+        assert!(sizes.iter().flatten().all(|&count| count > 5), "{sizes:?}");
     }
 
     #[test]
