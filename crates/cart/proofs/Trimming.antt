@@ -41,7 +41,7 @@ oldest-has-head w b is any =
     (by-tests Head (ltb (getD w 3 0) (nB1 w)) (eqb (nB2 w) 0)
     (λ above. (omega arith, omega arith, omega (arith, ltb-true (getD w 3 0) (nB1 w) above)))
     (λ empty. (omega arith, omega arith, omega (arith, eqb-true (nB2 w) 0 empty)))
-    (λ not-empty. let differs = eqb-false (nB2 w) 0 not-empty in (omega arith, omega arith, omega arith)))
+    (λ not-above not-empty. let differs = eqb-false (nB2 w) 0 not-empty in (omega arith, omega arith, omega arith)))
   where
     Head : ℕ → Type 0
     Head n = (2 ≤ n) × (n ≤ 3) × (1 ≤ getD w (4 + n) 0)

@@ -1,16 +1,18 @@
 -- Every promise about the definitions, each beside the sentence that asks for it; behind it, in brackets, the file of
 -- crates/laws/proofs that proves it. A directory is meant by its value; WordsAreDirectories joins values and words.
 use mathlib.Core.Path.{_≡_}
-use mathlib.Core.Bool.{true, _||_}
+use mathlib.Core.Bool.{true, false, _||_}
+use mathlib.Core.Logic.{_⊎_}
 use mathlib.Core.List.{List, [], _∷_, _++_}
-use Prim.Native.Nat.{ℕ, zero, suc, _+_, _*_, _≤_}
+use Prim.Native.Nat.{ℕ, zero, suc, _+_, _*_, _≤_, _<_}
 use lib.Dec.{eqb}
 use Rattle.figures.specs.Choice.{if_then_else_, ∣_∣}
-use Rattle.figures.specs.Entry.{bits, short, long, total, has}
-use Rattle.figures.specs.Directory.{Directory, fresh, cached, remembered, inCache}
+use Rattle.figures.specs.Entry.{Entry, bits, short, long, total, has}
+use Rattle.figures.specs.Directory.{Directory, fresh, Name, B1, B2, listOf, withList}
+use Rattle.figures.specs.Directory.{cached, remembered, inCache, t1AtTarget}
 use Rattle.figures.specs.Words.{encode, decode}
 use Rattle.figures.specs.Sound.{car, cart, knownPolicy, knownSize, sound}
-use Rattle.figures.specs.Hand.{Hand, begin, Ends}
+use Rattle.figures.specs.Hand.{Hand, begin, Ends, Leads}
 use Rattle.figures.specs.Car as Car
 use Rattle.figures.specs.Cart as Cart
 use Rattle.figures.specs.Request.{policyOf, request}
@@ -66,12 +68,22 @@ pub record CartStops (d : Directory) : Type 0 where
 abbrev pub PublishedStopComesFirst : Type 0
 PublishedStopComesFirst = WhenFull (λ d. if eqb (d .policy) car then CarStops d else CartStops d)
 
+-- "once T2 is chosen, T1 is not chosen again in that request": whatever hand CAR's looks lead to. [Car]
+abbrev pub T2StaysChosen : Type 0
+T2StaysChosen = (a z : Hand) → Leads Car.choose a z → t1AtTarget (a .dir) ≡ false → t1AtTarget (z .dir) ≡ false
+
+-- What an entry counts for by its page alone.
+abbrev pub byPage : (ℕ → ℕ) → Entry → ℕ
+byPage count e = count (e .page)
+
 -- One page goes from T1 or T2, of which the chosen one is not empty, to a history, and its reference bit is clear there;
+-- it is the page that the answer names: by any count of pages, T1 and T2 count that one page less;
 -- "bits set before equal bits set after plus bits cleared" (request 10 of 02). [Stops]
 pub record Evicts (d : Directory) (h : Hand) : Type 0 where
   pub from-T1-or-T2 : (1 ≤ h .list) × (h .list ≤ 2)
   pub one-less : cached (h .dir) + 1 ≡ cached d
   pub one-more : remembered (h .dir) ≡ remembered d + 1
+  pub page-leaves : (count : ℕ → ℕ) → inCache (byPage count) (h .dir) + count (h .page) ≡ inCache (byPage count) d
   pub demoted-clear : total bits (h .dir .b1) + total bits (h .dir .b2) ≡ 0
   pub bits-accounted : inCache bits d ≡ inCache bits (h .dir) + h .cleared
 
@@ -85,14 +97,24 @@ CountsKept =
     let h = Cart.evict d in
     d .policy ≡ cart → (h .nS ≡ inCache short (h .dir)) × (h .nL ≡ inCache long (h .dir)))
 
--- A history that trim takes the head of has one. [Stops]
-abbrev pub CarTrimHasHead : Directory → Type 0
-CarTrimHasHead d =
-    (∣ d .t1 ∣ + ∣ d .b1 ∣ ≡ d .c → 1 ≤ ∣ d .b1 ∣)
-    × (¬ (∣ d .t1 ∣ + ∣ d .b1 ∣ ≡ d .c) → cached d + remembered d ≡ 2 * d .c → 1 ≤ ∣ d .b2 ∣)
+-- Trim takes no head of an empty list: where its rule drops a head, that head was there. [Stops]
 
-abbrev pub CartTrimHasHead : Directory → Type 0
-CartTrimHasHead d = remembered d ≡ d .c + 1 → ∣ d .b2 ∣ ≡ 0 → 1 ≤ ∣ d .b1 ∣
+-- Dropping the head of list i makes d′ of d: the head was there, the rest of the list stays, and so does all else.
+pub record HeadDropped (i : Name) (d d′ : Directory) : Type 0 where
+  pub head : Entry
+  pub was-there : listOf i d ≡ head ∷ listOf i d′
+  pub else-same : d′ ≡ withList i (listOf i d′) d
+
+-- "if |T1|+|B1| = c drop B1's head; else if all four lengths sum to 2c drop B2's head"
+pub record CarTrimHasHead (d : Directory) : Type 0 where
+  pub drops-B1 : ∣ d .t1 ∣ + ∣ d .b1 ∣ ≡ d .c → HeadDropped B1 d (Car.trim d)
+  pub drops-B2 :
+      ¬ (∣ d .t1 ∣ + ∣ d .b1 ∣ ≡ d .c) → cached d + remembered d ≡ 2 * d .c → HeadDropped B2 d (Car.trim d)
+
+-- "(.. |B1|+|B2| = c+1): if |B1| > q or B2 is empty drop B1's head, else B2's head"
+pub record CartTrimHasHead (d : Directory) : Type 0 where
+  pub drops-B1 : remembered d ≡ d .c + 1 → (d .q < ∣ d .b1 ∣) ⊎ (∣ d .b2 ∣ ≡ 0) → HeadDropped B1 d (Cart.trim d)
+  pub drops-B2 : remembered d ≡ d .c + 1 → ¬ ((d .q < ∣ d .b1 ∣) ⊎ (∣ d .b2 ∣ ≡ 0)) → HeadDropped B2 d (Cart.trim d)
 
 abbrev pub TrimHasHead : Type 0
 TrimHasHead =

@@ -86,6 +86,11 @@ pub data Ends (look : Hand → Look) : Hand → Hand → Type 0 where
   last : {a z : Hand} → look a ≡ stop z → Ends look a z
   next : {a b z : Hand} → look a ≡ again b → Ends look b z → Ends look a z
 
+-- The same repeat on its way: its looks lead from a to z, each back to the choice.
+pub data Leads (look : Hand → Look) : Hand → Hand → Type 0 where
+  here : {a : Hand} → Leads look a a
+  back : {a b z : Hand} → look a ≡ again b → Leads look b z → Leads look a z
+
 abbrev pub onward : Look → Hand → (Hand → Hand) → Hand
 onward (again b) a rest = rest b
 onward (stop z) a rest = z

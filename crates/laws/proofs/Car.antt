@@ -1,25 +1,26 @@
 -- CAR's evict, trim and place: the evict part stops by itself and demotes one page, trim leaves room for a new one, and
 -- every outcome of a request keeps what soundness asks of CAR alone.
-use mathlib.Core.Path.{_≡_, refl}
+use mathlib.Core.Path.{_≡_, refl, _∙_, subst}
 use mathlib.Core.Bool.{Bool, true, false}
 use mathlib.Core.List.{List, [], _∷_}
 use Prim.Native.Nat.{ℕ, _+_, _*_, _≤_, _<_}
 use native.Mathlib.Omega.{arith}
 use lib.Dec.{eqb}
-use borrow.Author.Tests.{eqb-true, eqb-false}
+use borrow.Author.Tests.{eqb-true, eqb-false, eq-eqb, ne-eqb}
 use Rattle.figures.specs.Choice.{∣_∣}
 use Rattle.figures.specs.Entry.{Entry, Filter, newShort, bits, long, has, dropHead}
-use Rattle.figures.specs.Directory.{Directory, T1, T2, B1, B2, withList, placeNew, cached, remembered, inCache}
-use Rattle.figures.specs.Hand.{Hand, begin, Look, again}
+use Rattle.figures.specs.Directory.{Directory, T1, T2, B1, B2, withList, placeNew}
+use Rattle.figures.specs.Directory.{cached, remembered, inCache, t1AtTarget}
+use Rattle.figures.specs.Hand.{Hand, begin, Look, again, stop, none, here, back}
 use Rattle.figures.specs.Car.{look, choose, evict, trim, placeB1, placeB2}
 use Rattle.figures.specs.Request.{hit}
-use Rattle.figures.specs.Demands.{CarStops, Evicts, CarTrimHasHead}
+use Rattle.figures.specs.Demands.{CarStops, T2StaysChosen, Evicts, CarTrimHasHead}
 use Rattle.laws.proofs.Lists.{by-test, either, entryOf, length-tail, length-head-dropped, length-marked, length-without-at-most}
 use Rattle.laws.proofs.Lists.{total-tail, total-head-dropped, total-without, total-marked-same}
-use Rattle.laws.proofs.Repeats.{Leads, Ended, repeat-ends}
+use Rattle.laws.proofs.Repeats.{ComesTo, Ended, repeat-ends}
 use Rattle.laws.proofs.Facts.{Shared, CarFacts, Opened, Trimmed}
 use Rattle.laws.proofs.Turns.{holding, Turned, not-turned, turnedTo, Exchanged, turned-on, chosen}
-use Rattle.laws.proofs.Turns.{Evicted, evicted-t1, evicted-t2, trimmed-not, trimmed-b1, trimmed-b2}
+use Rattle.laws.proofs.Turns.{Evicted, evicted-t1, evicted-t2, dropped-b1, dropped-b2, trimmed-not, trimmed-b1, trimmed-b2}
 
 -- The accounts that a hand keeps; what looks keep, and what the last one leaves, which moves and clears no bit.
 
@@ -40,7 +41,7 @@ left a = inCache bits (a .dir)
 
 module _ (d : Directory) (shared : Shared d) (own : CarFacts d) (full : cached d ≡ d .c) where
   abbrev Looked : Hand → Look → Type 0
-  Looked = Leads (Turning d) (Outcome d) left
+  Looked = ComesTo (Turning d) (Outcome d) left
 
   -- A head with its bit set goes to T2's tail.
   turns : {a : Hand} {t1 t2 : List Entry} (x : ℕ) (f : Filter) → Turning d a → Exchanged (entryOf x true f) f t1 t2 (a .dir)
@@ -102,8 +103,22 @@ module _ (d : Directory) (shared : Shared d) (own : CarFacts d) (full : cached d
   pub car-moves : evict d .moves ≡ evict d .cleared + 1
   car-moves = ended .holds .accounted .moves-are-bits
 
-  pub car-trim-has-head : CarTrimHasHead (evict d .dir)
-  car-trim-has-head = omega (arith, car-opens .one-less, car-opens .same-c, car-opened .t1-b1-fit)
+-- Once T2 is chosen: its head goes to its own tail, and T1 and p stay.
+
+abbrev Stays : Hand → Look → Type 0
+Stays a (again b) = t1AtTarget (b .dir) ≡ t1AtTarget (a .dir)
+Stays a (stop z) = Unit {0}
+Stays a none = Unit {0}
+
+t2-stays : (l : List Entry) (a : Hand) → Stays a (look T2 B2 l a)
+t2-stays [] a = tt
+t2-stays (e ∷ es) a = either (Stays a) (e .bit) refl tt
+
+pub t2-stays-chosen : T2StaysChosen
+t2-stays-chosen a z here t2 = t2
+t2-stays-chosen a z (back {b = b} is on) t2 =
+    let looked : look T2 B2 (a .dir .t2) a ≡ again b = rw t2 at is in
+    t2-stays-chosen b z on (subst (Stays a) looked (t2-stays (a .dir .t2) a) ∙ t2)
 
 -- The places. T1 and B1 have room for a new page while the cache has room, and after trim.
 
@@ -143,6 +158,13 @@ module _ (d : Directory) (one-free : cached d + 1 ≡ d .c) where
       (λ below. by-test P (eqb (cached d + remembered d) (2 * d .c))
       (λ at-2c. less-b2 (omega (arith, eqb-false)) (omega (arith, eqb-true, eqb-false)))
       (λ below-2c. all (omega (arith, eqb-false)) (omega (arith, eqb-false))))
+
+  pub car-trim-has-head : CarFacts d → CarTrimHasHead d
+  unfolding trim
+  car-trim-has-head own = record {
+    drops-B1 = λ at-c. rw (eq-eqb _ _ at-c) (dropped-b1 d (omega arith));
+    drops-B2 = λ below at-2c. rw (ne-eqb _ _ below, eq-eqb _ _ at-2c) (dropped-b2 d (omega arith));
+  }
 
   pub car-trims : remembered d ≤ d .c + 1 → CarFacts d → Trimmed d (trim d)
   car-trims history own =

@@ -2,11 +2,12 @@
 -- Every hand move before the demotion lowers what the cache owes by one at least, which bounds the moves.
 use mathlib.Core.Path.{_≡_, refl}
 use mathlib.Core.Bool.{Bool, true, false}
+use mathlib.Core.Logic.{inl, inr, ⊎-elim}
 use mathlib.Core.List.{List, [], _∷_, _++_}
 use Prim.Native.Nat.{ℕ, _+_, _-_, _*_, _/_, _≤_, max, min}
 use native.Mathlib.Omega.{arith}
 use lib.Dec.{leb, ltb, eqb}
-use borrow.Author.Tests.{eqb-true, eqb-false, ltb-true}
+use borrow.Author.Tests.{eqb-true, eqb-false, eq-eqb, ltb-true, ltb-false}
 use Rattle.figures.specs.Choice.{if_then_else_, ∣_∣}
 use Rattle.figures.specs.Entry.{Entry, Filter, S, L, newLong, cleared, bits, shortOf, longOf, short, long}
 use Rattle.figures.specs.Entry.{total, has, without, dropHead}
@@ -16,13 +17,13 @@ use Rattle.figures.specs.Hand.{Hand, withDir, turn, Look, again}
 use Rattle.figures.specs.Cart.{raise, becomesLong, cost, firstLook, secondLook, firstPass, secondPass}
 use Rattle.figures.specs.Cart.{demoteT1, demoteT2, demotion, counted, evict, trim, placeB1, placeB2}
 use Rattle.figures.specs.Request.{hit}
-use Rattle.figures.specs.Demands.{Evicts, CartStops, CartTrimHasHead}
+use Rattle.figures.specs.Demands.{Evicts, CartStops, HeadDropped, CartTrimHasHead}
 use Rattle.laws.proofs.Lists.{by-test, by-tests, either, entryOf, atHead, head-of-tail, short-or-long}
 use Rattle.laws.proofs.Lists.{total-tail, total-without, total-marked-same, total-head-dropped}
-use Rattle.laws.proofs.Repeats.{Leads, Ended, repeat-ends}
+use Rattle.laws.proofs.Repeats.{ComesTo, Ended, repeat-ends}
 use Rattle.laws.proofs.Facts.{Shared, CartFacts, Opened, Trimmed}
 use Rattle.laws.proofs.Turns.{holding, Turned, not-turned, turnedTo, Exchanged, turned-on, chosen}
-use Rattle.laws.proofs.Turns.{Evicted, evicted-t1, evicted-t2, trimmed-not, trimmed-b1, trimmed-b2}
+use Rattle.laws.proofs.Turns.{Evicted, evicted-t1, evicted-t2, dropped-b1, dropped-b2, trimmed-not, trimmed-b1, trimmed-b2}
 
 -- What the cache can still cost the hand: besides T1's cost, a set bit of T2 a move to T1 and one back.
 abbrev pub owing : Directory → ℕ
@@ -88,10 +89,10 @@ leftSecond a = total cost (a .dir .t1)
 
 module _ (d : Directory) where
   abbrev FirstLooked : Hand → Look → Type 0
-  FirstLooked = Leads (Passing d) (Settling d) leftFirst
+  FirstLooked = ComesTo (Passing d) (Settling d) leftFirst
 
   abbrev SecondLooked : Hand → Look → Type 0
-  SecondLooked = Leads (Settling d) (Settled d) leftSecond
+  SecondLooked = ComesTo (Settling d) (Settled d) leftSecond
 
   -- T2's head: with its bit set it goes to T1's tail.
   at-t2 : (x : ℕ) (b : Bool) (f : Filter) (es : List Entry) (a : Hand)
@@ -231,11 +232,23 @@ module _ (d : Directory) where
       by-test P (eqb (remembered d) (d .c + 1))
       (λ more. by-tests P (ltb (d .q) ∣ d .b1 ∣) (eqb ∣ d .b2 ∣ 0)
       (λ longer. less-b1 (omega (arith, ltb-true))) (λ none. less-b1 (omega (arith, eqb-true)))
-      (λ some. less-b2 (omega (arith, eqb-false))))
+      (λ shorter some. less-b2 (omega (arith, eqb-false))))
       (λ fits. all (eqb-false _ _ fits))
 
   pub cart-trim-has-head : CartTrimHasHead d
-  cart-trim-has-head = omega arith
+  unfolding trim
+  cart-trim-has-head = record {
+    drops-B1 = λ more oldest.
+        rw (eq-eqb _ _ more)
+        (by-tests (HeadDropped B1 d) (ltb (d .q) ∣ d .b1 ∣) (eqb ∣ d .b2 ∣ 0)
+        (λ longer. dropped-b1 d (omega (arith, ltb-true))) (λ none. dropped-b1 d (omega (arith, eqb-true)))
+        (λ shorter some. absurd (⊎-elim (λ longer. omega (arith, ltb-false)) (eqb-false _ _ some) oldest)));
+    drops-B2 = λ more not-oldest.
+        rw (eq-eqb _ _ more)
+        (by-tests (HeadDropped B2 d) (ltb (d .q) ∣ d .b1 ∣) (eqb ∣ d .b2 ∣ 0)
+        (λ longer. absurd (not-oldest (inl (ltb-true _ _ longer)))) (λ none. absurd (not-oldest (inr (eqb-true _ _ none))))
+        (λ shorter some. dropped-b2 d (omega (arith, eqb-false))));
+  }
 
   pub cart-trims : remembered d ≤ d .c + 1 → Trimmed d (trim d)
   cart-trims history =

@@ -17,9 +17,9 @@ by-test P true p q = p refl
 by-test P false p q = q refl
 
 pub by-tests : {A : Type 0} (P : A → Type 0) (b c : Bool) {x y : A}
-    → (b ≡ true → P x) → (c ≡ true → P x) → (c ≡ false → P y) → P (if b || c then x else y)
+    → (b ≡ true → P x) → (c ≡ true → P x) → (b ≡ false → c ≡ false → P y) → P (if b || c then x else y)
 by-tests P true c p q r = p refl
-by-tests P false c p q r = by-test P c q r
+by-tests P false c p q r = by-test P c q (r refl)
 
 -- What holds of both holds of the choice.
 pub either : {A : Type 0} (P : A → Type 0) (b : Bool) {x y : A} → P x → P y → P (if b then x else y)

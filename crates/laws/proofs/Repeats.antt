@@ -11,10 +11,10 @@ pub record Nearer (Good : Hand → Type 0) (left : Hand → ℕ) (a b : Hand) : 
   pub less : left b < left a
 
 -- What a look from a comes to: a nearer hand, or a stop, where End holds; and never to a head that is not there.
-abbrev pub Leads : (Hand → Type 0) → (Hand → Type 0) → (Hand → ℕ) → Hand → Look → Type 0
-Leads Good End left a (again b) = Nearer Good left a b
-Leads Good End left a (stop z) = End z
-Leads Good End left a none = ⊥
+abbrev pub ComesTo : (Hand → Type 0) → (Hand → Type 0) → (Hand → ℕ) → Hand → Look → Type 0
+ComesTo Good End left a (again b) = Nearer Good left a b
+ComesTo Good End left a (stop z) = End z
+ComesTo Good End left a none = ⊥
 
 -- From a the repeat ends at z, where End holds.
 pub record Ended (look : Hand → Look) (End : Hand → Type 0) (a z : Hand) : Type 0 where
@@ -22,9 +22,9 @@ pub record Ended (look : Hand → Look) (End : Hand → Type 0) (a z : Hand) : T
   pub holds : End z
 
 module _ (look : Hand → Look) (Good End : Hand → Type 0) (left : Hand → ℕ)
-    (leads : (a : Hand) → Good a → Leads Good End left a (look a)) where
+    (leads : (a : Hand) → Good a → ComesTo Good End left a (look a)) where
   step : (k : ℕ) → ((a : Hand) → Good a → left a < k → Ended look End a (repeat look k a))
-      → (a : Hand) → left a < suc k → (l : Look) → look a ≡ l → Leads Good End left a l
+      → (a : Hand) → left a < suc k → (l : Look) → look a ≡ l → ComesTo Good End left a l
       → Ended look End a (onward l a (repeat look k))
   step k ih a h (again b) is nearer =
       let r = ih b (nearer .good) (omega arith) in

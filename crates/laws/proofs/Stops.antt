@@ -2,6 +2,7 @@
 -- CAR's and CART's own laws are in Car and Cart; here they are put together.
 use mathlib.Core.Path.{_≡_}
 use mathlib.Core.Bool.{Bool, true, false}
+use native.Mathlib.Omega.{arith}
 use lib.Dec.{eqb}
 use Rattle.figures.specs.Choice.{if_then_else_}
 use Rattle.figures.specs.Directory.{Directory, cached}
@@ -13,7 +14,7 @@ use Rattle.figures.specs.Demands.{WhenFull, CarStops, CartStops, PublishedStopC
 use Rattle.figures.specs.Demands.{CarTrimHasHead, CartTrimHasHead, TrimHasHead}
 use Rattle.laws.proofs.Facts.{Shared, CarFacts, CartFacts, own-by}
 use Rattle.laws.proofs.Soundness.{facts, by-policy}
-use Rattle.laws.proofs.Car.{car-stops, car-evicts, car-trim-has-head}
+use Rattle.laws.proofs.Car.{car-stops, car-evicts, car-opens, car-opened, car-trim-has-head}
 use Rattle.laws.proofs.Cart.{cart-stops, cart-evicts, cart-counts, cart-trim-has-head}
 
 -- What holds of CAR's directories and of CART's holds of every sound one that is full.
@@ -33,7 +34,10 @@ evicts-one = when-full (λ b d. Evicts d ((if b then carPolicy else cartPolicy) 
 pub trim-has-head : TrimHasHead
 trim-has-head =
     when-full (λ b d. if b then CarTrimHasHead (Car.evict d .dir) else CartTrimHasHead (Cart.evict d .dir))
-    car-trim-has-head (λ d shared own full. cart-trim-has-head (Cart.evict d .dir))
+    (λ d shared own full.
+    let opens = car-opens d shared own full in
+    car-trim-has-head (Car.evict d .dir) (omega arith) (car-opened d shared own full))
+    (λ d shared own full. cart-trim-has-head (Cart.evict d .dir))
 
 pub counts-kept : CountsKept
 counts-kept d s full is-cart = cart-counts d (facts d s .shared) (own-by (facts d s) is-cart) full

@@ -2,7 +2,7 @@
 -- Each law is over any count of entries, so that a size, which counts ones, needs no law of its own.
 use mathlib.Core.Path.{_≡_, refl, ap}
 use mathlib.Core.Bool.{false}
-use mathlib.Core.List.{List, _∷_}
+use mathlib.Core.List.{List, [], _∷_}
 use Prim.Native.Nat.{ℕ, _+_, _≤_}
 use native.Mathlib.Omega.{arith}
 use lib.Dec.{eqb}
@@ -12,7 +12,7 @@ use Rattle.figures.specs.Entry.{Entry, Filter, bits, total, dropHead}
 use Rattle.figures.specs.Directory.{Directory, Name, T1, T2, B1, B2, withList, withLists, withQ}
 use Rattle.figures.specs.Directory.{cached, remembered, inCache, t1AtTarget}
 use Rattle.figures.specs.Hand.{Hand, begin, withDir, withCounts, demote}
-use Rattle.figures.specs.Demands.{Evicts}
+use Rattle.figures.specs.Demands.{Evicts, byPage, HeadDropped}
 use Rattle.laws.proofs.Lists.{by-test, entryOf, is, one, total-tail, total-head-dropped, length-head-dropped}
 use Rattle.laws.proofs.Facts.{inHistory, cached-counts, remembered-counts, Shared, Opened, Trimmed}
 
@@ -122,7 +122,17 @@ module _ {d : Directory} (shared : Shared d) where
         none-enters = λ x. omega (arith, taken (is x), same-page t x);
         history-clear = omega (arith, given bits, still-remembered t bits);
       } in
-      record { opens = opens; evicts = omega (arith, taken bits) }
+      record {
+        opens = opens;
+        evicts = record {
+          from-T1-or-T2 = named;
+          one-less = opens .one-less;
+          one-more = opens .one-more;
+          page-leaves = λ count. omega (arith, taken (byPage count), t .same-pages count);
+          demoted-clear = opens .history-clear;
+          bits-accounted = omega (arith, taken bits);
+        };
+      }
 
   pub evicted-t1 : {nS nL : ℕ} (e : Entry) (es : List Entry) (a : Hand) → let h = holding T1 (e ∷ es) a in Turned d h → bits e ≡ 0
       → Evicted d (withCounts nS nL (demote T1 B1 e es h))
@@ -136,7 +146,17 @@ module _ {d : Directory} (shared : Shared d) where
 
 -- A trim takes the head of one history, or nothing.
 
+front-of : (l : List Entry) → 1 ≤ ∣ l ∣ → (e : Entry) × (l ≡ e ∷ dropHead l)
+front-of [] some = absurd (omega arith)
+front-of (e ∷ es) some = (e, refl)
+
 module _ (d : Directory) where
+  pub dropped-b1 : 1 ≤ ∣ d .b1 ∣ → HeadDropped B1 d (withList B1 (dropHead (d .b1)) d)
+  dropped-b1 some = let f = front-of (d .b1) some in record { head = f .0; was-there = f .1; else-same = refl }
+
+  pub dropped-b2 : 1 ≤ ∣ d .b2 ∣ → HeadDropped B2 d (withList B2 (dropHead (d .b2)) d)
+  dropped-b2 some = let f = front-of (d .b2) some in record { head = f .0; was-there = f .1; else-same = refl }
+
   trimmed : {b1 b2 : List Entry} → ((count : Entry → ℕ) → total count b1 ≤ total count (d .b1))
       → ((count : Entry → ℕ) → total count b2 ≤ total count (d .b2)) → ∣ b1 ∣ + ∣ b2 ∣ ≤ d .c
       → Trimmed d (withLists (d .t1) (d .t2) b1 b2 d)
