@@ -1,6 +1,7 @@
--- What an accepted bid holds: its policy is known, c, cost and count of pages are in their ranges.
+-- What an accepted bid holds: its policy is known, and c, cost, count of pages and every page are in their ranges.
 -- Each part is a fact about the line that gives it: what is read there, if anything is, is in range.
-use mathlib.Core.Path.{subst}
+use mathlib.Core.Path.{_≡_, refl, subst}
+use mathlib.Core.Bool.{true}
 use mathlib.Core.List.{List, []}
 use Prim.Native.Nat.{ℕ, suc, _+_, _≤_, _<_}
 use native.Mathlib.Omega.{arith}
@@ -8,11 +9,11 @@ use lib.ListN.{drop}
 use lib.Dec.{ltb}
 use borrow.Author.Tests.{ltb-true}
 use Rattle.figures.specs.Choice.{∣_∣, same}
-use Rattle.figures.specs.Sound.{knownSize}
+use Rattle.figures.specs.Sound.{allAtMost, knownSize}
 use Rattle.laws.proofs.Lists.{by-test, either}
 use Rattle.laws.proofs.Encoding.{reads}
 use Rattle.sheets.specs.Text.{bytes, starts}
-use Rattle.sheets.specs.Number.{Value, means, wrong, whole, costForm, missCost}
+use Rattle.sheets.specs.Number.{Value, means, wrong, wholeForm, whole, costForm, missCost}
 use Rattle.sheets.specs.Lines.{Lines, end, unclosed, line, lines, Reading, good, bad, before, under}
 use Rattle.sheets.specs.Bid.{Bid, Meaning, bid, refused, PolicyValue, policyValue, policyMeant, inRange}
 use Rattle.sheets.specs.Bid.{policyLine, sizeLine, costLine, pageLine, Pages, listed, refusedAt, onto, pagesFrom}
@@ -95,29 +96,41 @@ cost-at-most ls = of-under Cost (bytes "misscost=") missCost small ls
 
 -- THE PAGE LINES
 
-page-allowed : (n : ℕ) (ls : Lines) → OfReading (λ page. n < 1000) (pageLine n ls)
+abbrev Page : ℕ → Type 0
+Page page = page ≤ 4294967295
+
+page-at-most : (s : List ℕ) → OfValue Page (whole s)
+unfolding whole
+page-at-most s = by-test (OfValue Page) (wholeForm s) (λ h. let said = simp reads at h in omega arith) (λ h. tt)
+
+-- What n page lines before it allow of a page.
+abbrev Allowed : ℕ → ℕ → Type 0
+Allowed n page = (n < 1000) × Page page
+
+page-allowed : (n : ℕ) (ls : Lines) → OfReading (Allowed n) (pageLine n ls)
 unfolding pageLine
-page-allowed n ls = of-under (λ page. n < 1000) (bytes "page=") _ (λ s.
-    by-test (OfValue (λ page. n < 1000)) (ltb n 1000) (λ h. any (ltb-true n 1000 h) (whole s)) (λ h. tt)) ls
+page-allowed n ls = of-under (Allowed n) (bytes "page=") _ (λ s.
+    by-test (OfValue (Allowed n)) (ltb n 1000) (λ h. both (ltb-true n 1000 h) (whole s) (page-at-most s)) (λ h. tt)) ls
   where
-    any : n < 1000 → (v : Value) → OfValue (λ page. n < 1000) v
-    any h (means page) = h
-    any h (wrong number) = tt
+    both : n < 1000 → (v : Value) → OfValue Page v → OfValue (Allowed n) v
+    both h (means page) small = (h, small)
+    both h (wrong number) small = tt
 
 abbrev Room : ℕ → List ℕ → Type 0
-Room n pages = n + ∣ pages ∣ ≤ 1000
+Room n pages = (n + ∣ pages ∣ ≤ 1000) × (allAtMost 4294967295 pages ≡ true)
 
-of-onto : (n : ℕ) (r : Reading) (after : Pages) → OfReading (λ page. n < 1000) r
+of-onto : (n : ℕ) (r : Reading) (after : Pages) → OfReading (Allowed n) r
     → (n < 1000 → OfPages (Room (suc n)) after) → OfPages (Room n) (onto n r after)
-of-onto n (good page rest) (listed pages) h room = let i = room h in omega arith
+of-onto n (good page rest) (listed pages) h room =
+    let i = room (h .0) in (omega arith, simp reads (h .1, i .1))
 of-onto n (good page rest) (refusedAt number at) h room = tt
 of-onto n (bad number) (listed pages) h room = tt
 of-onto n (bad number) (refusedAt later at) h room = tt
 
 pages-at-most : (n : ℕ) (ls : Lines) → n ≤ 1000 → OfPages (Room n) (pagesFrom n ls)
-pages-at-most n end h = omega arith
+pages-at-most n end h = (omega arith, refl)
 pages-at-most n unclosed h =
-    of-onto n (pageLine n unclosed) (listed []) (page-allowed n unclosed) (λ below. omega arith)
+    of-onto n (pageLine n unclosed) (listed []) (page-allowed n unclosed) (λ below. (omega arith, refl))
 pages-at-most n (line l rest) h =
     of-onto n (pageLine n (line l rest)) (pagesFrom (suc n) rest) (page-allowed n (line l rest)) (λ below.
     pages-at-most (suc n) rest below)
@@ -131,6 +144,7 @@ module _ (policy c cost : ℕ) (p : Known policy) (q : Size c) (r : Cost cost) w
     size-known = q;
     cost-at-most = r;
     pages-at-most = omega arith;
+    each-page-at-most = h .1;
   }
   of-pages (refusedAt number at) h = tt
 

@@ -149,37 +149,36 @@ comma-place (b ∷ s) t all = go (isDigit b) refl all (comma-place s t)
         rw other (ap suc (rest all))
     go false is all rest = absurd (false≢true all)
 
+-- Digits, a comma and more: what stands before the comma and behind it.
+module _ (s t : List ℕ) (all : allDigits s ≡ true) where
+  before-is : beforeComma (s ++ (comma ∷ t)) ≡ s
+  before-is = rw (comma-place s t all) (take-append-seam s (comma ∷ t))
+
+  after-is : afterComma (s ++ (comma ∷ t)) ≡ t
+  after-is = rw (comma-place s t all) (drop-append-add s (comma ∷ t) 1)
+
 -- Three digits are worth their number.
 three-worth : (n : ℕ) → n < 1000 → value (threeDigits n) ≡ n
 three-worth n h = omega arith
 
-three-digits : (n : ℕ) → allDigits (threeDigits n) ≡ true
-three-digits n = rw (last-is-digit (n / 100), last-is-digit (n / 10), last-is-digit n)
-
--- The wait's two parts.
-module _ (wait : ℕ) (h : wait < 2 ^ 64) where
-  place : placeOf comma (milliseconds wait) ≡ ∣ decimal (wait / 1000) ∣
-  unfolding milliseconds
-  place = comma-place (decimal (wait / 1000)) (threeDigits (wait % 1000)) (digits-of (wait / 1000) (omega arith) .all-digits)
-
-  pub before-is : beforeComma (milliseconds wait) ≡ decimal (wait / 1000)
-  unfolding milliseconds
-  before-is = rw place (take-append-seam (decimal (wait / 1000)) (comma ∷ threeDigits (wait % 1000)))
-
-  pub after-is : afterComma (milliseconds wait) ≡ threeDigits (wait % 1000)
-  unfolding milliseconds
-  after-is = rw place (drop-append-add (decimal (wait / 1000)) (comma ∷ threeDigits (wait % 1000)) 1)
-
 pub wait-back : WaitsReadBack
-wait-back wait h = record {
-  milliseconds-back = rw (before-is wait h) (digits-of (wait / 1000) (omega arith) .worth);
-  thousandths-back = rw (after-is wait h) (three-worth (wait % 1000) (omega arith));
-}
+unfolding milliseconds
+wait-back wait h =
+    let d = digits-of (wait / 1000) (omega arith) in
+    let all : allDigits (decimal (wait / 1000)) ≡ true = d .all-digits in
+    record {
+      whole-part = rw before-is (in-form 16 (wait / 1000) (decimal (wait / 1000)) d (omega arith));
+      three-after = rw after-is;
+      digits-after = rw after-is (simp last-is-digit);
+      milliseconds-back = rw before-is (d .worth);
+      thousandths-back = rw after-is (three-worth (wait % 1000) (omega arith));
+    }
 
 pub cost-back : CostReadBack
-unfolding missCost
+unfolding missCost milliseconds
 cost-back cost h =
     let d = digits-of (cost / 1000) (omega arith) in
+    let all : allDigits (decimal (cost / 1000)) ≡ true = d .all-digits in
     let form = in-form 3 (cost / 1000) (decimal (cost / 1000)) d (omega arith) in
-    rw (before-is cost (omega arith), after-is cost (omega arith), form, three-digits (cost % 1000), d .worth)
-    (ap means (omega (arith, three-worth (cost % 1000) (omega arith))))
+    rw (before-is, after-is, form, d .worth)
+    (simp last-is-digit (ap means (omega (arith, three-worth (cost % 1000) (omega arith)))))

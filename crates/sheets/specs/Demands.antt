@@ -1,10 +1,12 @@
 -- Every promise about the definitions, each beside the sentence that asks for it; behind it, in brackets, the file of
 -- proofs/ that proves it.
 use mathlib.Core.Path.{_≡_}
+use mathlib.Core.Bool.{true}
 use mathlib.Core.List.{List}
 use Prim.Native.Nat.{ℕ, _+_, _*_, _^_, _/_, _%_, _≤_, _<_}
 use Rattle.figures.specs.Choice.{∣_∣}
-use Rattle.sheets.specs.Number.{means, value, whole, beforeComma, afterComma, missCost}
+use Rattle.figures.specs.Sound.{allAtMost}
+use Rattle.sheets.specs.Number.{means, allDigits, value, digitsForm, whole, beforeComma, afterComma, missCost}
 use Rattle.sheets.specs.Bid.{Bid, bid, refused, meaning}
 use Rattle.sheets.specs.Result.{Outcome, decimal, milliseconds, resultSheet}
 
@@ -14,8 +16,12 @@ use Rattle.sheets.specs.Result.{Outcome, decimal, milliseconds, resultSh
 abbrev pub WholeReadBack : Type 0
 WholeReadBack = (n : ℕ) → n < 2 ^ 32 → whole (decimal n) ≡ means n
 
--- Every 64-bit wait, by its two parts. [Numbers]
+-- Every 64-bit wait, by its two parts: "a whole part without leading zeros, a comma, three digits". Before the comma no
+-- such wait has more than 17 digits. [Numbers]
 pub record WaitReadBack (wait : ℕ) : Type 0 where
+  pub whole-part : digitsForm 17 (beforeComma (milliseconds wait)) ≡ true
+  pub three-after : ∣ afterComma (milliseconds wait) ∣ ≡ 3
+  pub digits-after : allDigits (afterComma (milliseconds wait)) ≡ true
   pub milliseconds-back : value (beforeComma (milliseconds wait)) ≡ wait / 1000
   pub thousandths-back : value (afterComma (milliseconds wait)) ≡ wait % 1000
 
@@ -39,12 +45,13 @@ pub record Fits (r : Outcome) : Type 0 where
 abbrev pub ResultFits : Type 0
 ResultFits = (r : Outcome) → Fits r → ∣ resultSheet r ∣ ≤ 256
 
--- What an accepted bid holds: pages, c and cost in their ranges. [Bids]
+-- What an accepted bid holds: policy, c, cost, the count of pages and every page in their ranges. [Bids]
 pub record InRange (b : Bid) : Type 0 where
   pub policy-known : (1 ≤ b .policy) × (b .policy ≤ 2)
   pub size-known : (1 ≤ b .c) × (b .c ≤ 1024)
   pub cost-at-most : b .cost ≤ 9999999
   pub pages-at-most : ∣ b .pages ∣ ≤ 1000
+  pub each-page-at-most : allAtMost 4294967295 (b .pages) ≡ true
 
 abbrev pub BidsInRange : Type 0
 BidsInRange = (s : List ℕ) (b : Bid) → meaning s ≡ bid b → InRange b
