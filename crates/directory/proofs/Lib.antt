@@ -6,3 +6,4 @@ pub mod Running
 pub mod Refused
 pub mod Determined
 pub mod Bounded
+pub mod Kept
