@@ -70,8 +70,8 @@ firstPass h = repeat firstLook (suc (total bits (h .dir .t2))) h
 unfoldable pub secondPass : Hand → Hand
 secondPass h = repeat secondLook (suc (total cost (h .dir .t1))) h
 
--- Lines 36 to 40. The chosen list has a head after the passes: from every sound, full directory one page leaves T1 or T2
--- (Demands, EvictsOne).
+-- Lines 36 to 40. The chosen list has a head after the passes: from every sound, full directory one page leaves T1 or
+-- T2 (Demands, EvictsOne).
 abbrev pub demoteT1 : List Entry → Hand → Hand
 demoteT1 [] h = h
 demoteT1 (e ∷ es) h = withCounts (h .nS - 1) (h .nL) (demote T1 B1 e es h)

@@ -55,8 +55,8 @@ abbrev pub WhenFull : (Directory → Type 0) → Type 0
 WhenFull P = (d : Directory) → Sound d → cached d ≡ d .c → P d
 
 -- "No budget may decide where the defined evict part ends: .. from every sound directory the published stop comes first."
--- The repeat that knows no budget ends where the definition does. CAR's asks for no head that is not there, since `Ends`
--- has no rule for that. CART's passes also stop at an empty list; that the demotion has a head is in EvictsOne. [Stops]
+-- The repeat that knows no budget ends where the definition does. CAR's asks for no head that is not there: `Ends` has
+-- no rule for that. CART's passes also stop at an empty list; that the demotion has a head is in EvictsOne. [Stops]
 abbrev pub CarStops : Directory → Type 0
 CarStops d = Ends Car.choose (begin 0 0 d) (Car.evict d)
 

@@ -80,8 +80,8 @@ pub data Look : Type 0 where
   stop : Hand → Look
   none : Look
 
--- The published repeat, which knows no budget: from a it ends at z. It has no rule for `none`, which a look of CAR comes
--- to where there is no head; a look of CART comes to a stop there.
+-- The published repeat, which knows no budget: from a it ends at z. It has no rule for `none`, to which a look of CAR
+-- comes where there is no head; a look of CART comes to a stop there.
 pub data Ends (look : Hand → Look) : Hand → Hand → Type 0 where
   last : {a z : Hand} → look a ≡ stop z → Ends look a z
   next : {a b z : Hand} → look a ≡ again b → Ends look b z → Ends look a z

@@ -16,8 +16,8 @@ use Rattle.sheets.specs.Result.{Outcome, decimal, milliseconds, resultSh
 abbrev pub WholeReadBack : Type 0
 WholeReadBack = (n : ℕ) → n < 2 ^ 32 → whole (decimal n) ≡ means n
 
--- Every 64-bit wait, by its two parts: "a whole part without leading zeros, a comma, three digits". Before the comma no
--- such wait has more than 17 digits. [Numbers]
+-- Every 64-bit wait, by its two parts: "a whole part without leading zeros, a comma, three digits". No such wait has
+-- more than 17 digits before its comma. [Numbers]
 pub record WaitReadBack (wait : ℕ) : Type 0 where
   pub whole-part : digitsForm 17 (beforeComma (milliseconds wait)) ≡ true
   pub three-after : ∣ afterComma (milliseconds wait) ∣ ≡ 3
