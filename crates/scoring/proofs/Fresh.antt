@@ -9,7 +9,7 @@ use lib.Dec.{eqb}
 use borrow.Author.Tests.{le-leb, le-ltb, eq-eqb, eqb-false}
 use Rattle.figures.specs.Choice.{∣_∣}
 use Rattle.figures.specs.Directory.{Directory, fresh}
-use Rattle.figures.specs.Words.{encode, decode}
+use Rattle.figures.specs.Words.{encode}
 use Rattle.figures.specs.Sound.{car, cart, knownPolicy, knownSize}
 use Rattle.figures.specs.Refusals as Refusals
 use Rattle.figures.specs.Refusals.{freshNumber, checkNumber, runNumber, onFresh, onCheck, onRun, servedRun}
@@ -19,7 +19,7 @@ use Rattle.laws.proofs.Kept.{fresh-is-sound}
 use Rattle.directory.specs.declared.Ran.{Ran}
 use Rattle.directory.specs.Promises.{Freshened, Replayed}
 use Rattle.directory.proofs.Refused.{check-sound}
-use Rattle.scoring.specs.Promises.{Fitting, RanFresh}
+use Rattle.scoring.specs.Ready.{Fitting, RanFresh}
 
 pub known-policy : (policy : ℕ) → 1 ≤ policy → policy ≤ 2 → knownPolicy policy ≡ true
 known-policy policy least most = by-car (eqb policy car) refl
@@ -60,11 +60,12 @@ module _ {policy c : ℕ} {w trace answers : List ℕ} (h : Fitting policy c w t
       rw (sound-words, few, room, decode-encode) refl
 
   pub ran-fresh : {number : ℕ} {w′ w″ answers′ : List ℕ} {r : Ran} → Freshened policy c w number w′
-      → Replayed w′ trace answers r w″ answers′ → RanFresh policy c trace answers (r .tally) answers′
+      → Replayed w′ trace answers r w″ answers′ → RanFresh policy c trace answers (r .tally) w″ answers′
   ran-fresh {r = r} made run-through =
       let words = made .words-are ∙ fresh-accepted in
       let served = ap (λ v. onRun v trace answers) words ∙ run-accepted in
       record {
         tally-is = run-through .tally-is ∙ ap (λ (x : Refusals.Replayed). x .tally) served;
+        words-are = run-through .words-are ∙ ap (λ (x : Refusals.Replayed). x .words) served;
         answers-are = run-through .answers-are ∙ ap (λ (x : Refusals.Replayed). x .answers) served;
       }

@@ -1,16 +1,16 @@
 -- A bid scored, and a sheet scored, by the promises of the reader, the run and the writers.
 -- Assumes nothing.
 use mathlib.Core.Path.{_≡_, refl, sym, ap, subst, _∙_}
-use mathlib.Core.List.{List}
+use mathlib.Core.List.{List, _++_}
 use Prim.Native.Nat.{ℕ, _+_, _*_, _≤_}
 use native.Mathlib.Omega.{arith}
-use lib.ListN.{take, length}
+use lib.ListN.{take, drop}
 use lib.Seq.{length-take-le}
 use Rattle.figures.specs.Choice.{∣_∣}
 use Rattle.figures.specs.Run as Run
+use Rattle.figures.specs.Words.{encode}
 use Rattle.tally.specs.declared.Tally.{Tally}
-use Rattle.sheets.specs.Bid as Sheet
-use Rattle.sheets.specs.Bid.{bid, refused, meaning}
+use Rattle.sheets.specs.Bid.{meaning}
 use Rattle.sheets.specs.Demands.{InRange}
 use Rattle.sheets.specs.Result.{resultSheet, refusedSheet}
 use Rattle.sheets.specs.Refusals.{over}
@@ -22,10 +22,10 @@ use Rattle.result.specs.declared.Written.{Written}
 use Rattle.result.specs.Promises.{WroteSheet, WroteRefusal}
 use Rattle.scoring.specs.declared.Scored.{Scored}
 use Rattle.scoring.specs.Scored.{outcome, replayed, printed, scored}
-use Rattle.scoring.specs.Promises.{Fitting, RanFresh, Lent, Good, meant, InFront, ScoredBid, ScoredSheet}
+use Rattle.scoring.specs.Ready.{refusedScored, Fitting, RanFresh, Lent, Good, meant, Over, BidScored, AnsweredWith}
 use Rattle.scoring.proofs.Fresh.{known-policy}
 use Rattle.scoring.proofs.Reading.{Accepted, sheet-refused, sheet-accepted}
-use Rattle.scoring.proofs.Writing.{sheet-in-front, text-in-front}
+use Rattle.scoring.proofs.Writing.{sheet-over, text-over, over-fits}
 
 -- What `score_bid` hands the writer.
 abbrev handed : Bid → Tally → Outcome
@@ -41,50 +41,63 @@ handed b t = record {
 }
 
 module _ {b : Bid} {pages dir answers out : List ℕ} (h : Good b pages dir answers out) where
+  dir-part : ∣ take (8 + 4 * b .c) dir ∣ ≡ 8 + 4 * b .c
+  dir-part = length-take-le (8 + 4 * b .c) dir (omega (arith, h .size-known .1, h .lent .dir-fits))
+
   pub fitting : Fitting (b .policy) (b .c) (take (8 + 4 * b .c) dir) (take (b .count) pages) answers
   fitting =
-      let lent = h .lent in
-      let words = length-take-le (8 + 4 * b .c) dir (omega (arith, h .size-known .1, lent .dir-fits)) in
-      let many = length-take-le (b .count) pages (omega (arith, h .few, lent .pages-fit)) in
+      let many = length-take-le (b .count) pages (omega (arith, h .few, h .lent .pages-fit)) in
       record {
         policy-known = h .policy-known;
         size-known = h .size-known;
-        exact = words;
+        exact = dir-part;
         few = omega (arith, h .few, many);
-        room = omega (arith, h .few, many, lent .answers-fit);
+        room = omega (arith, h .few, many, h .lent .answers-fit);
       }
 
-  pub bid-scored : {t : Tally} {answers′ out′ : List ℕ} {r : Written}
-      → RanFresh (b .policy) (b .c) (take (b .count) pages) answers t answers′
+  pub bid-scored : {t : Tally} {w answers′ out′ : List ℕ} {r : Written}
+      → RanFresh (b .policy) (b .c) (take (b .count) pages) answers t w answers′
+      → ∣ w ∣ ≡ ∣ take (8 + 4 * b .c) dir ∣
       → WroteSheet (handed b t) out r out′
-      → ScoredBid b pages answers (record { count = r .count; requests = b .count }) answers′ out′
+      → BidScored b pages dir answers out (record { number = 0; line = 0; count = r .count; requests = b .count })
+      (w ++ drop (8 + 4 * b .c) dir) answers′ out′
   unfolding printed
-  bid-scored {t} {out′ = out′} {r} ran wrote =
+  bid-scored {t} {w} {out′ = out′} {r} ran same wrote =
       let known = known-policy (b .policy) (h .policy-known .0) (h .policy-known .1) in
-      let front = sheet-in-front (handed b t) out wrote known (h .lent .out-fits) in
+      let front = sheet-over (handed b t) out wrote known (h .lent .out-fits) in
+      let long : ∣ encode (replayed (meant b pages) .dir) ∣ ≡ 8 + 4 * b .c
+      = ap ∣_∣ (sym (ran .words-are)) ∙ same ∙ dir-part in
       record {
-        prints = subst (λ x. InFront (resultSheet (outcome (meant b pages) x)) (r .count) out′) (ran .tally-is) front;
+        number-is = refl;
+        line-is = refl;
         requests-are = refl;
+        dir-is =
+            ap (λ (v : List ℕ). v ++ drop (8 + 4 * b .c) dir) (ran .words-are)
+            ∙ ap (λ (n : ℕ). encode (replayed (meant b pages) .dir) ++ drop n dir) (sym long);
         answers-are = ran .answers-are;
+        prints =
+            subst
+            (λ (x : Run.Tally). Over (resultSheet (outcome (meant b pages) x)) out (r .count) out′)
+            (ran .tally-is)
+            front;
       }
 
-module _ (s pages dir answers out : List ℕ) (lent : Lent pages dir answers out) (b : Bid) (pages′ : List ℕ)
+module _ (s pages dir answers out : List ℕ) (lent : Lent 256 pages dir answers out) (b : Bid) (pages′ : List ℕ)
     (read : BidRead s pages b pages′) where
-  pub refusal-scored : {out′ : List ℕ} {r : Written} → (b .number ≡ 0 → ⊥)
-      → WroteRefusal (b .number) (b .line) out r out′
-      → ScoredSheet s answers (record { count = r .count; requests = 0 }) pages′ answers out′
+  pub refusal-scored : {out′ : List ℕ} {w : Written} {r : Scored} → (b .number ≡ 0 → ⊥)
+      → WroteRefusal (b .number) (b .line) out w out′ → r ≡ refusedScored (b .number) (b .line) (w .count)
+      → AnsweredWith (scored s) s pages dir answers out r pages′ dir answers out′
   unfolding printed scored
-  refusal-scored {out′} {r} some wrote =
-      let is = sheet-refused s pages (lent .pages-fit) b pages′ read some in
-      let front = text-in-front (refusedSheet (b .number) (b .line)) out wrote (lent .out-fits) in
+  refusal-scored some wrote is =
+      let told = sheet-refused s pages (lent .pages-fit) b pages′ read some in
+      let front = text-over (refusedSheet (b .number) (b .line)) out wrote (lent .out-fits) in
       record {
-        prints = subst (λ m. InFront (printed m) (r .count) out′) (sym is) front;
-        requests-fit = omega arith;
-        ledger-is = λ x good. let never : _≡_ {A = ℕ} 0 1 = cc in absurd (omega arith);
+        answer-is = rw (told .means-refusal, is) (search (over-fits front, front, told));
+        few = rw is (omega arith);
       }
 
   module _ (none : b .number ≡ 0) where
-    accepted : Accepted (meaning s) b pages′
+    accepted : Accepted (meaning s) pages b pages′
     accepted = sheet-accepted s pages (lent .pages-fit) b pages′ read none
 
     in-range : InRange (meant b pages′)
@@ -106,16 +119,10 @@ module _ (s pages dir answers out : List ℕ) (lent : Lent pages dir answers out
       few = few;
     }
 
-    pub sheet-scored : {answers′ out′ : List ℕ} {r : Scored} → ScoredBid b pages′ answers r answers′ out′
-        → ScoredSheet s answers r pages′ answers′ out′
+    pub sheet-scored : {dir′ answers′ out′ : List ℕ} {r : Scored} → BidScored b pages′ dir answers out r dir′ answers′ out′
+        → AnsweredWith (scored s) s pages dir answers out r pages′ dir′ answers′ out′
     unfolding scored
-    sheet-scored {out′ = out′} {r} h = record {
-      prints = subst (λ m. InFront (printed m) (r .count) out′) (sym (accepted .means-bid)) (h .prints);
-      requests-fit = omega (arith, h .requests-are, few);
-      ledger-is = λ x is.
-          let good : bid (meant b pages′) ≡ bid x = sym (accepted .means-bid) ∙ is in
-          let same : meant b pages′ ≡ x = cc in (
-            ap (λ (n : ℕ). take n pages′) (h .requests-are) ∙ ap (λ (y : Sheet.Bid). y .pages) same,
-            h .answers-are ∙ ap (λ (y : Sheet.Bid). over (replayed y .answers) answers) same,
-          );
+    sheet-scored {r = r} h = record {
+      answer-is = rw (accepted .means-bid) (search (over-fits (h .prints), accepted));
+      few = omega (arith, h .requests-are, few);
     }

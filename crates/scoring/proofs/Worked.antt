@@ -1,4 +1,4 @@
--- The run that document 01 gives to reproduce, by computation.
+-- The run that document 01 gives to reproduce, and its ledger, by computation.
 -- Assumes nothing.
 use mathlib.Core.Path.{refl}
 use Rattle.figures.specs.Directory.{placeNew}
@@ -9,8 +9,13 @@ use Rattle.figures.specs.Run.{runFrom}
 use Rattle.sheets.specs.Number.{digitsForm, whole, missCost}
 use Rattle.sheets.specs.Bid.{policyLine, sizeLine, costLine, pageLine, inOrder, meaning}
 use Rattle.sheets.specs.Result.{decimal, milliseconds, resultSheet}
-use Rattle.scoring.specs.Scored.{printed, scored, RunToReproduce}
+use Rattle.result.specs.Ledger.{requestLine}
+use Rattle.scoring.specs.Scored.{printed, scored, ledgerLines, requestLines, ledgered, RunToReproduce, WorkedLedger}
 
 pub run-to-reproduce : RunToReproduce
 unfolding placeNew runFrom serve missed repeat Car.evict Car.trim Car.placeB1 Car.placeB2 digitsForm whole missCost policyLine sizeLine costLine pageLine inOrder meaning decimal milliseconds resultSheet printed scored
 run-to-reproduce = refl
+
+pub worked-ledger : WorkedLedger
+unfolding placeNew runFrom serve missed repeat Car.evict Car.trim Car.placeB1 Car.placeB2 digitsForm whole missCost policyLine sizeLine costLine pageLine inOrder meaning decimal milliseconds resultSheet requestLine printed scored ledgerLines requestLines ledgered
+worked-ledger = refl

@@ -1,20 +1,15 @@
--- The reader's answer decides: a refusal written, or the bid scored.
-use native.Mathlib.Omega.{arith}
+-- Too little memory is refused; where it is enough, the sheet decides.
 use borrow.Author.Needs.{needs}
-use Rattle.scoring.proofs.Scoring.{refusal-scored, good-bid, sheet-scored}
+use Rattle.scoring.specs.Scored.{scored}
+use Rattle.scoring.proofs.Lending.{lent, short-answers, sheet-answers}
 use Rattle.scoring.proofs.score.Statement.{statement}
 use Rattle.scoring.proofs.score.Tie as tie
-use Rattle.scoring.proofs.score.Reads as reads
-use Rattle.scoring.proofs.score.Lts as lts
-use Rattle.bid.proofs.read.Reads as read-reads
-use Rattle.result.proofs.write_refusal.Reads as write-refusal-reads
-use Rattle.scoring.proofs.score_bid.Reads as score-bid-reads
 
-read-requires : tie.Need-read-requires
-read-requires c κs = search needs
+lends-enough-requires : tie.Need-lends-enough-requires
+lends-enough-requires c κs = search needs
 
-write-refusal-requires : tie.Need-write-refusal-requires
-write-refusal-requires c κs = search needs
+refused-requires : tie.Need-refused-requires
+refused-requires c κs = search needs
 
 same-length : tie.Need-same-length
 same-length c = search needs
@@ -22,49 +17,33 @@ same-length c = search needs
 same-length-2 : tie.Need-same-length-2
 same-length-2 c = search needs
 
-returns : tie.Need-returns
-returns c =
-    let r = c .before .before .before .before .before .before .before .before in
-    let start = r .before .before .before .before .before .before .before in
-    let a = start .args in
-    refusal-scored
-    (a .sheet .now)
-    (a .pages .now)
-    (a .dir .now)
-    (a .answers .now)
-    (a .out .now)
-    (start .pre)
-    _
-    _
-    (r .read .ensures)
-    (c .before .before .before .before .if1 .taken)
-    (c .before .before .write-refusal .ensures)
-
-score-bid-requires : tie.Need-score-bid-requires
-score-bid-requires c κs =
-    let read = c .before .before .before .before .before .before .before in
-    let r = read .before in
-    let start = r .before .before .before .before .before .before .before in
-    let a = start .args in
-    let same = read .pages .given in
-    good-bid
-    (a .sheet .now)
-    (a .pages .now)
-    (a .dir .now)
-    (a .answers .now)
-    (a .out .now)
-    (start .pre)
-    _
-    _
-    (r .read .ensures)
-    (c .before .before .before .before .if1 .left)
-    (omega (arith, same))
-
 same-length-3 : tie.Need-same-length-3
 same-length-3 c = search needs
 
 same-length-4 : tie.Need-same-length-4
 same-length-4 c = search needs
+
+returns : tie.Need-returns
+returns c =
+    let told = c .before .before in
+    let a = told .before .before .before .before .before .before .before .before .before .before .args in
+    short-answers
+    256
+    (a .pages .now)
+    (a .dir .now)
+    (a .answers .now)
+    (a .out .now)
+    _
+    (told .lends-enough .ensures)
+    (scored (a .sheet .now))
+    (a .sheet .now)
+    (c .before .if1 .taken)
+    (c .refused .ensures)
+
+score-sheet-requires : tie.Need-score-sheet-requires
+score-sheet-requires c κs =
+    let enough = c .before .before .before .before in
+    lent 256 _ _ _ _ _ (enough .before .lends-enough .ensures) (enough .if1 .left)
 
 same-length-5 : tie.Need-same-length-5
 same-length-5 c = search needs
@@ -72,37 +51,44 @@ same-length-5 c = search needs
 same-length-6 : tie.Need-same-length-6
 same-length-6 c = search needs
 
+same-length-7 : tie.Need-same-length-7
+same-length-7 c = search needs
+
+same-length-8 : tie.Need-same-length-8
+same-length-8 c = search needs
+
 returns-2 : tie.Need-returns-2
 returns-2 c =
-    let scored = c .before .before .before .before .before .before in
-    let r = scored .before .before .before .before .before .before .before .before .before in
-    let start = r .before .before .before .before .before .before .before in
-    let a = start .args in
-    sheet-scored
-    (a .sheet .now)
+    let answered = c .before .before .before .before .before .before .before .before in
+    let enough = answered .before .before .before .before .before in
+    let a = enough .before .before .before .before .before .before .before .before .before .before .before .args in
+    sheet-answers
+    256
     (a .pages .now)
     (a .dir .now)
     (a .answers .now)
     (a .out .now)
-    (start .pre)
     _
-    _
-    (r .read .ensures)
-    (scored .before .before .before .before .before .if1 .left)
-    (scored .score-bid .ensures)
+    (enough .before .lends-enough .ensures)
+    (scored (a .sheet .now))
+    (a .sheet .now)
+    (enough .if1 .left)
+    (answered .score-sheet .ensures)
 
 pub score-spec : {M : Type 1} → statement M
 score-spec =
     tie.close
     (tie.spec
-    read-requires
-    write-refusal-requires
+    lends-enough-requires
+    refused-requires
     same-length
     same-length-2
-    returns
-    score-bid-requires
     same-length-3
     same-length-4
+    returns
+    score-sheet-requires
     same-length-5
     same-length-6
+    same-length-7
+    same-length-8
     returns-2)

@@ -7,10 +7,6 @@ use Rattle.scoring.proofs.Writing.{wait-fits}
 use Rattle.scoring.proofs.Scoring.{fitting, bid-scored}
 use Rattle.scoring.proofs.score_bid.Statement.{statement}
 use Rattle.scoring.proofs.score_bid.Tie as tie
-use Rattle.scoring.proofs.score_bid.Reads as reads
-use Rattle.scoring.proofs.score_bid.Lts as lts
-use Rattle.result.proofs.write.Reads as write-reads
-use Rattle.scoring.proofs.replay.Reads as replay-reads
 
 cast-words : tie.Need-cast-words
 cast-words c = search needs
@@ -65,8 +61,9 @@ same-length-3 c = search needs
 returns : tie.Need-returns
 returns c =
     let written = c .before .before in
-    let replayed = written .before .before .before .before .before .before .before .before in
-    bid-scored (replayed .before .before .before .before .before .before .before .before .before .before .pre) (replayed .replay .ensures) (written .write .ensures)
+    let back = written .before .before .before .before .before .before .before in
+    let replayed = back .before in
+    bid-scored (replayed .before .before .before .before .before .before .before .before .before .before .pre) (replayed .replay .ensures) (back .dir .given .0) (written .write .ensures)
 
 pub score-bid-spec : {M : Type 1} → statement M
 score-bid-spec =

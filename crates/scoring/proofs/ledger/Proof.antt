@@ -1,0 +1,94 @@
+-- Too little memory is refused; where it is enough, the sheet decides.
+use borrow.Author.Needs.{needs}
+use Rattle.scoring.specs.Scored.{ledgered}
+use Rattle.scoring.proofs.Lending.{lent, short-answers, sheet-answers}
+use Rattle.scoring.proofs.ledger.Statement.{statement}
+use Rattle.scoring.proofs.ledger.Tie as tie
+
+lends-enough-requires : tie.Need-lends-enough-requires
+lends-enough-requires c κs = search needs
+
+refused-requires : tie.Need-refused-requires
+refused-requires c κs = search needs
+
+same-length : tie.Need-same-length
+same-length c = search needs
+
+same-length-2 : tie.Need-same-length-2
+same-length-2 c = search needs
+
+same-length-3 : tie.Need-same-length-3
+same-length-3 c = search needs
+
+same-length-4 : tie.Need-same-length-4
+same-length-4 c = search needs
+
+returns : tie.Need-returns
+returns c =
+    let told = c .before .before in
+    let a = told .before .before .before .before .before .before .before .before .before .before .args in
+    short-answers
+    256256
+    (a .pages .now)
+    (a .dir .now)
+    (a .answers .now)
+    (a .out .now)
+    _
+    (told .lends-enough .ensures)
+    (ledgered (a .sheet .now))
+    (a .sheet .now)
+    (c .before .if1 .taken)
+    (c .refused .ensures)
+
+ledger-sheet-requires : tie.Need-ledger-sheet-requires
+ledger-sheet-requires c κs =
+    let enough = c .before .before .before .before in
+    lent 256256 _ _ _ _ _ (enough .before .lends-enough .ensures) (enough .if1 .left)
+
+same-length-5 : tie.Need-same-length-5
+same-length-5 c = search needs
+
+same-length-6 : tie.Need-same-length-6
+same-length-6 c = search needs
+
+same-length-7 : tie.Need-same-length-7
+same-length-7 c = search needs
+
+same-length-8 : tie.Need-same-length-8
+same-length-8 c = search needs
+
+returns-2 : tie.Need-returns-2
+returns-2 c =
+    let answered = c .before .before .before .before .before .before .before .before in
+    let enough = answered .before .before .before .before .before in
+    let a = enough .before .before .before .before .before .before .before .before .before .before .before .args in
+    sheet-answers
+    256256
+    (a .pages .now)
+    (a .dir .now)
+    (a .answers .now)
+    (a .out .now)
+    _
+    (enough .before .lends-enough .ensures)
+    (ledgered (a .sheet .now))
+    (a .sheet .now)
+    (enough .if1 .left)
+    (answered .ledger-sheet .ensures)
+
+pub ledger-spec : {M : Type 1} → statement M
+ledger-spec =
+    tie.close
+    (tie.spec
+    lends-enough-requires
+    refused-requires
+    same-length
+    same-length-2
+    same-length-3
+    same-length-4
+    returns
+    ledger-sheet-requires
+    same-length-5
+    same-length-6
+    same-length-7
+    same-length-8
+    returns-2)
