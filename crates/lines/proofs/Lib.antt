@@ -3,3 +3,4 @@ pub mod Cursor
 pub mod Spans
 pub mod Determined
 pub mod Walk
+pub mod Taken

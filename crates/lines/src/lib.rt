@@ -147,3 +147,10 @@ pub fn part_of(sheet: &[u8], line: u32) -> &[u8]
 {
     look_up(sheet, line).part
 }
+
+// The look-up's number alone, out of its own answer, for callers that keep no answer with a reference in it.
+pub fn number_of(sheet: &[u8], line: u32) -> u32
+    ensures { λ r. ⌜ r ≡ onLookUp (now (sheet .entry)) line .number ⌝ }
+{
+    look_up(sheet, line).number
+}
