@@ -1,9 +1,8 @@
 -- A function that asks `look_up` for a line of its sheet, and hands back one field of the answer: one walk of its MIR, by
 -- hand, for every field. All that it knows of `look_up` is that it meets its contract.
 --     Row k κ, valued k κ d     the type of the answer's field k, and its value in the answer d
---     taking k τ    the MIR of such a function, which hands back the field k: τ is the result's type
---     ended k       its signature: the parameters are those of `look_up`, and the result is of the field's type
---     takes         it meets any contract whose `ensures` holds of the field of whatever `look_up` may answer
+--     taking k τ                the MIR of such a function, which hands back the field k: τ is the result's type
+--     takes                     it meets any contract whose `ensures` holds of the field of whatever `look_up` may answer
 -- Assumes nothing.
 use mathlib.Core.Path.{_≡_, refl, sym, ap, subst}
 use mathlib.Core.List.{List, [], _∷_}
@@ -15,8 +14,8 @@ use mir.Syntax.{Ty, tyInt, tyRef, imm, named, erased, w8, w32, Fn, local, valueL
 use mir.Syntax.{field, copy, rvOpd}
 use mir.Val.{Val, vint}
 use mir.Fields.{getV}
-use base.Logic.{SProp, ent, sep, emp, via, fst∗, snd∗, exE, id⊢}
-use base.Fml.{Lft, Share, Fml, fat}
+use base.Logic.{SProp, ent, emp, snd∗, exE, id⊢}
+use base.Fml.{Lft, Share, fat}
 use prog.Memory.{Memory, fieldOf}
 use prog.Model.{Model}
 use prog.Routine.{Routine, Env}
@@ -24,19 +23,17 @@ use prog.Wp.{Heap, WpFn, Tables}
 use ghost.Atoms.{Atoms, sem}
 use contract.Monad.{Fun, fact}
 use contract.Running.{Running, GhostRules, givenOf, tables, tablesOf}
-use types.Kit.{Given, ‵, raw, _⊛_, given, ⋆, _$_, _∵_, !, qed, by, move, drop, use0, use1, use2, split, join, learn, fsplit}
-use types.Kit.{suffices, frame, rewrite, done}
+use types.Kit.{Given, ‵, raw, _⊛_, given, ⋆, _$_, _∵_, !, qed, by, move, drop, use1, use2, split, learn, fsplit, rewrite}
 use types.Part.{whole, sub, look-in}
 use types.Run.{look, init, forget, stop, fld, from, load, of-opd, and-then, no-more, land, assigns, returns, enter}
 use types.Run.{alloc1, alloc0, params1, pass1, pass0, free1, free0}
-use sound.WpLaws.{fmOf, WpFn-mono}
-use denote.RattleType.{RattleType, owns}
+use sound.WpLaws.{fmOf}
+use denote.RattleType.{RattleType}
 use denote.Laws.{Is, Typed, shows}
-use denote.Plain.{uint-vals, uint-tells}
-use denote.Builtin.{u8, u32}
+use denote.Builtin.{u8}
 use denote.Ref.{RefT, NamedLft}
-use denote.Signature.{plain, namedLft}
-use denote.Slice.{sliceTy, slice-vals, shr-slice-tells, shr-slice-lawful, shr-slice-copy}
+use denote.Signature.{Slot, plain, namedLft}
+use denote.Slice.{sliceTy, shr-slice-lawful}
 use denote.Steps.{only, peeks}
 use denote.Struct.At.{FieldAt, lawAt, getAt, spelled, val-get}
 use denote.Struct.Declared.{Declared}
@@ -45,16 +42,13 @@ use denote.Struct.Rest.{all-own, ownAt, rest, own-open, own-out}
 use denote.Struct.Values.{Values}
 use denote.Triple.Statement.{Contract, Triple}
 use denote.Triple.Call.{calls-at}
-use denote.Triple.Entry.{Vals, onEntry}
 use denote.Triple.Spec.{Meets, tripleOf}
 use denote.Triple.Table.{cited}
-use denote.Triple.Walked.{says, Stays, stay-none, stay-none-slice, walkOf, ends-at, walked, walk-meets}
-use denote.Triple.Walked.{goes-none, goes-none-slice}
-use denote.Exit.{yes}
-use denote.Triple.Clauses.{Ended, Clauses, atExit, ensured, lasts, closing}
+use denote.Triple.Clauses.{Clauses, ensured, lasts, closing}
 use Rattle.lines.specs.Stretch.{LookedUp}
 use Rattle.lines.specs.declared.Found.{Found}
-use Rattle.lines.proofs.Walk.{Bytes, val, Alive, Answer, with-number, answers}
+use Rattle.lines.proofs.Walk.{Bytes, val, Own, Alive, Answer, answers}
+use Rattle.lines.proofs.Walk.{ended, passed, Entry, Ensured, Left, hands, leaves, by-walk}
 use Rattle.lines.proofs.Found as T
 use Rattle.lines.proofs.Found.Laws as T′
 use Rattle.lines.proofs.look_up as look-up
@@ -75,17 +69,20 @@ L κ = T′.the-laws (α κ)
 abbrev fields : (κ : Lft) → Found → Values (D κ .parts)
 fields κ d = (d .number, (d .part, tt))
 
--- the field k: its type, its value, and its machine value in the answer's
-abbrev pub Row : ℕ → Lft → RattleType
+-- the field k: its type, as the function's result has it too, its value, and its machine value in the answer's
+abbrev Row : ℕ → Lft → RattleType
 Row k κ = FieldAt (D κ .parts) k .row
 
-abbrev pub valued : (k : ℕ) (κ : Lft) → Found → Row k κ .Denot
+abbrev result : ℕ → Slot 1
+result k = plain (λ κs. Row k (κs .0))
+
+abbrev valued : (k : ℕ) (κ : Lft) → Found → Row k κ .Denot
 valued k κ d = FieldAt (D κ .parts) k .into (getAt (D κ .parts) k (fields κ d))
 
 abbrev word : ℕ → Lft → Found → Val
 word k κ d = getV (spelled (D κ .parts) (L κ) (fields κ d)) k
 
-abbrev pub taking : ℕ → Ty → Fn
+abbrev taking : ℕ → Ty → Fn
 taking k τ = record {
   lifetimes = 1;
   outlives = [];
@@ -98,170 +95,99 @@ taking k τ = record {
       (seq (assign (place 0 []) (rvOpd (copy (place 3 (field k ∷ []))))) return);
 }
 
-abbrev pub ended : ℕ → Ended
-ended k = record {
-  signature = record {
-    lifetimes = 1;
-    outlives = [];
-    params = look-up.signature .params;
-    result = plain (λ κs. Row k (κs .0));
-  };
-  kept = look-up.ended .kept;
-}
-
--- the slice and the line number are had at exit as they were passed
-abbrev stayed : (k : ℕ) → Stays (ended k .signature .params) (ended k .kept)
-stayed k = (stay-none-slice (0 ∷ []) tt (plain (λ _. u8)) yes, (stay-none (λ _. u32) yes, tt))
-
--- what the contract c ensures of the field of an answer; and that it holds of whatever `look_up` may answer
-module _ (k : ℕ) {M : Type 1} (𝓤 : URA M) (c : Clauses 𝓤 (ended k)) (κ : Lft) (s : RefT (List ℕ)) (n : ℕ) where
-  abbrev Ensured : c (κ, tt) (s, (n, tt)) .ghost → Found → SProp 𝓤
-  Ensured g d =
-      c (κ, tt) (s, (n, tt)) .ensures g (valued k κ d) (atExit (ended k) (κ, tt) (s, (n, tt)) (tt, (tt, tt)))
-
-  abbrev Shown : c (κ, tt) (s, (n, tt)) .ghost → Type 1
-  Shown g = (d : Found) → LookedUp s n d → ent 𝓤 (emp 𝓤) (Ensured g d)
-
 module _ {M : Type 1} (𝓤 : URA M) (H : Heap 𝓤) (A : Atoms 𝓤) (mem : Memory → SProp 𝓤) (run : Routine → Fun 𝓤) where
   -- the contract of `look_up`
   abbrev LooksUp : Contract 𝓤
   LooksUp = tripleOf 𝓤 H A look-up.signature (look-up.spec 𝓤 H A mem run)
 
-  module _ (k : ℕ) (c : Clauses 𝓤 (ended k)) (W : Given 𝓤 H A) where
-    -- what the walk shows
-    abbrev Me : Contract 𝓤
-    Me = walkOf 𝓤 H A (ended k) (stayed k) c
+  module _ (κ : Lft) (q : Share) (s : RefT (List ℕ)) (n : ℕ) where
+    abbrev to : LooksUp .Ghost
+    to = (((κ, tt), (q, tt), tt, (s, (n, tt)), passed w32 κ s n), tt)
+
+    -- of what `look_up` ensures, the clause alone: it has no `&mut`, so what is said of last values is dropped
+    abbrev said : Found → SProp 𝓤
+    said d = ensured 𝓤 H A look-up.ended (look-up.clauses 𝓤 H A mem run) (κ, tt) (s, (n, tt)) tt d
+
+    tells : (d : Found) → ent 𝓤 (said d) (fact 𝓤 (LookedUp s n d))
+    tells d =
+        exE 𝓤 _ (λ ws. snd∗ 𝓤 (sem 𝓤 H A (lasts look-up.ended (κ, tt) (s, (n, tt)) ws)) (fact 𝓤 (LookedUp s n d)))
 
     module _
-        (κ : Lft)
-        (q : Share)
-        (s : RefT (List ℕ))
-        (n : ℕ)
-        (n-fits : n < 2 ^ 32)
-        (g : c (κ, tt) (s, (n, tt)) .ghost)
-        (shown : Shown k 𝓤 c κ s n g)
+        (W : Given 𝓤 H A)
+        (k : ℕ)
+        {τ τ₃ : Ty}
+        {o : ℕ}
+        (there : fieldOf (T′.mir erased) k ≡ some (τ₃, o))
+        (one : Row k κ .mir ≡ τ ∷ [])
+        (𝓣 : Tables 𝓤 H)
+        (known : Triple 𝓤 (𝓣 .C #lines·look-up) LooksUp)
       where
-        abbrev passed : Vals look-up.signature (κ, tt)
-        passed = (val s ∷ [], (vint w32 n ∷ [], tt))
-
-        abbrev entry : Me .Ghost
-        entry = (((κ, tt), (q, tt), tt, (s, (n, tt)), passed), g)
-
-        abbrev Entered : SProp 𝓤
-        Entered = onEntry 𝓤 H A look-up.signature (κ, tt) (q, tt) (s, (n, tt)) passed
-
-        -- what the slice owns, and what the field owns
-        abbrev Own : Fml
-        Own = Bytes κ .own s (val s ∷ [])
-
-        abbrev OwnField : Found → Fml
-        OwnField d = Row k κ .own (valued k κ d) (word k κ d ∷ [])
-
-        abbrev to : LooksUp .Ghost
-        to = (((κ, tt), (q, tt), tt, (s, (n, tt)), passed), tt)
-
-        asked : ent 𝓤 Entered (LooksUp .pre to)
-        asked = qed W (Alive κ q ∷ ‵ (owns (Bytes κ ∷ u32 ∷ []) (s, (n, tt)) passed) ∷ []) ∵ join ! $ frame ! $ done !
-
-        goes : ent 𝓤 (⋆ 𝓤 H A (Alive κ q ∷ ‵ Own ∷ [])) (sep 𝓤 (LooksUp .pre to) (sem 𝓤 H A Own))
-        goes =
-            qed W (Alive κ q ∷ ‵ Own ∷ []) ∵ move ! (1 ∷ []) $
-            use1 W (‵ Own ⊛ ‵ Own) (shr-slice-copy 𝓤 H A W (named 0) κ u8 .twice s (val s ∷ [])) $ split ! $
-            with-number ! w32 κ s n n-fits $
-            move ! (2 ∷ 0 ∷ []) $ use2 W (raw (LooksUp .pre to)) asked $ frame ! $ done !
-
-        -- of what `look_up` ensures, the clause alone: it has no `&mut`, so what is said of last values is dropped
-        abbrev said : Found → SProp 𝓤
-        said d = ensured 𝓤 H A look-up.ended (look-up.clauses 𝓤 H A mem run) (κ, tt) (s, (n, tt)) tt d
-
-        tells : (d : Found) → ent 𝓤 (said d) (fact 𝓤 (LookedUp s n d))
-        tells d =
-            exE 𝓤 _ (λ ws. snd∗ 𝓤 (sem 𝓤 H A (lasts look-up.ended (κ, tt) (s, (n, tt)) ws)) (fact 𝓤 (LookedUp s n d)))
-
-        exits : (d : Found) → LookedUp s n d
-            → ent 𝓤 (⋆ 𝓤 H A (‵ (OwnField d) ∷ Alive κ q ∷ ‵ Own ∷ [])) (Me .post entry (word k κ d))
-        exits d e =
-            qed W (‵ (OwnField d) ∷ Alive κ q ∷ ‵ Own ∷ []) ∵
-            suffices ! _
-            (ends-at 𝓤 H A (ended k) (stayed k) c W entry (word k κ d) (valued k κ d) (tt, (tt, tt)) (tt, (tt, tt))) $
-            use0 W (raw (Ensured k 𝓤 c κ s n g d)) (shown d e) $ move ! (3 ∷ []) $ with-number ! w32 κ s n n-fits $
-            move ! (0 ∷ 2 ∷ []) $ join ! $ move ! (2 ∷ 0 ∷ []) $ join ! $ done !
-
-        module _
-            {τ τ₃ : Ty}
-            {o : ℕ}
-            (there : fieldOf (T′.mir erased) k ≡ some (τ₃, o))
-            (one : Row k κ .mir ≡ τ ∷ [])
-            (𝓣 : Tables 𝓤 H)
-            (known : Triple 𝓤 (𝓣 .C #lines·look-up) LooksUp)
-          where
-            walk : Is (Bytes κ) s (val s ∷ [])
-                → ent 𝓤 Entered (WpFn 𝓤 H (𝓣 .C) (𝓣 .Λ) (taking k τ) (val s ∷ vint w32 n ∷ []) (Me .post entry))
-            walk is-slice =
-                let typed = shr-slice-lawful 𝓤 H A W (named 0) κ u8 .typed s (val s ∷ []) is-slice .0 in
-                -- the lifetime as the local's type has it
-                let α₃ : NamedLft = record { mir = erased; lft = κ } in
-                let Answers = T.the-row (α κ) in
-                qed W (Alive κ q ∷ ‵ (owns (Bytes κ ∷ u32 ∷ []) (s, (n, tt)) passed) ∷ []) ∵
-                enter ! (𝓣 .C) (𝓣 .Λ) (taking k τ) (val s ∷ vint w32 n ∷ []) _ $
-                alloc1 ! (λ l₀. alloc1 ! (λ l₁. alloc1 ! (λ l₂. alloc1 ! (λ l₃. alloc0 ! $ params1 ! $
-                pass1 ! (init ! 4 refl typed) $ pass1 ! (init ! 2 refl (tt, record { fits = n-fits })) $ pass0 ! $
-                -- [room for _3; …; _2; …; _1; …; room for _0; …; the token; what the parameters own]
-                move ! (9 ∷ []) $ fsplit ! $ move ! (1 ∷ []) $ drop ! $ move ! (9 ∷ 0 ∷ []) $
-                use2 W (raw (LooksUp .pre to) ⊛ ‵ Own) goes $ split ! $
-                -- _3 = look_up(_1, _2)
-                calls-at ! (fmOf 𝓤 H (W .laws) 𝓣) LooksUp known to
-                (and-then ! (load ! (from ! (stop !)) (look ! 6 refl))
-                (and-then ! (load ! (from ! (stop !)) (look ! 4 refl)) (no-more !))) (λ u.
-                use1 W (Answer κ q Answers u said) (id⊢ 𝓤 _) $
-                answers ! tt κ q Answers u said (LookedUp s n) tells (λ d e.
-                -- [the answer; the token; what the slice owns; room for _3; …; _2; …; _1; …; room for _0; …]
-                peeks ! Answers (Is Answers) (shows 𝓤 H A Answers) d (u ∷ []) (λ is.
-                land ! (from ! (stop !))
-                (init ! 3 refl (LL.lawful (T.the-type α₃) (T′.the-laws α₃) 𝓤 H A W .typed d _ is .0)) $
-                -- the answer is opened, and what the field owns is taken out of it
-                use1 W (given (u ∷ [] ≡ T′.lowered d ∷ []) (‵ (all-own (D κ .parts) (L κ) (fields κ d))))
-                (own-open 𝓤 H A W (D κ) (L κ) (fields κ d) u) $ learn ! (λ is-answer.
-                rewrite ! 3 (λ (w : Val). ‵ (fat fullShare (T′.mir erased) l₃ 0 w)) (ap only is-answer) refl $
-                use1 W (‵ (ownAt (D κ .parts) (L κ) k (getAt (D κ .parts) k (fields κ d))) ⊛
-                ‵ (rest (D κ .parts) (L κ) k (fields κ d)))
-                (own-out 𝓤 H A W (D κ .parts) (L κ) k (fields κ d)) $ split ! $ move ! (1 ∷ []) $ drop ! $
-                rewrite ! 0 (λ (w : Val). ‵ (Row k κ .own (valued k κ d) (w ∷ [])))
-                (sym (val-get (D κ .parts) (L κ) k (fields κ d))) refl $
-                peeks ! (Row k κ) (Is (Row k κ)) (shows 𝓤 H A (Row k κ)) (valued k κ d) (word k κ d ∷ []) (λ is-field.
-                let field-typed = lawAt (D κ .parts) (L κ) k .lawful 𝓤 H A W .typed _ _ is-field in
-                -- _0 = _3.k
-                assigns ! (of-opd ! (load ! (from ! (fld ! there (stop !))) (look-in ! 3 (sub ! k there (whole !)))))
-                (from ! (stop !))
-                (init ! 9 refl (subst (λ (τs : List Ty). Typed τs (word k κ d ∷ [])) one field-typed .0)) $
-                returns ! (look ! 9 refl) $ forget ! 3 refl $ forget ! 5 refl $ forget ! 7 refl $ forget ! 9 refl $
-                move ! (9 ∷ 10 ∷ []) $ free1 ! $ move ! (7 ∷ 8 ∷ []) $ free1 ! $ move ! (5 ∷ 6 ∷ []) $ free1 ! $
-                move ! (3 ∷ 4 ∷ []) $ free1 ! $ free0 ! $ by ! (exits d e))))))))))
+        -- what is had of an answer d at the end gives Q of the field
+        walk : n < 2 ^ 32 → Is (Bytes κ) s (val s ∷ []) → (Q : Val → SProp 𝓤)
+            → ((d : Found) → LookedUp s n d
+            → ent 𝓤 (⋆ 𝓤 H A (‵ (Row k κ .own (valued k κ d) (word k κ d ∷ [])) ∷ Alive κ q ∷ ‵ (Own κ s) ∷ []))
+            (Q (word k κ d)))
+            → ent 𝓤 (⋆ 𝓤 H A (Entry w32 κ q s n))
+            (WpFn 𝓤 H (𝓣 .C) (𝓣 .Λ) (taking k τ) (val s ∷ vint w32 n ∷ []) Q)
+        walk n-fits is-slice Q exits =
+            let typed = shr-slice-lawful 𝓤 H A W (named 0) κ u8 .typed s (val s ∷ []) is-slice .0 in
+            -- the lifetime as the local's type has it
+            let α₃ : NamedLft = record { mir = erased; lft = κ } in
+            let Answers = T.the-row (α κ) in
+            qed W (Entry w32 κ q s n) ∵
+            enter ! (𝓣 .C) (𝓣 .Λ) (taking k τ) (val s ∷ vint w32 n ∷ []) _ $
+            alloc1 ! (λ l₀. alloc1 ! (λ l₁. alloc1 ! (λ l₂. alloc1 ! (λ l₃. alloc0 ! $ params1 ! $
+            pass1 ! (init ! 4 refl typed) $ pass1 ! (init ! 2 refl (tt, record { fits = n-fits })) $ pass0 ! $
+            -- [room for _3; …; _2; …; _1; …; room for _0; …; the token; what the parameters own]
+            move ! (9 ∷ []) $ fsplit ! $ move ! (1 ∷ []) $ drop ! $ move ! (9 ∷ 0 ∷ []) $
+            use2 W (raw (LooksUp .pre to) ⊛ ‵ (Own κ s)) (hands 𝓤 H A W w32 κ q s n n-fits) $ split ! $
+            -- _3 = look_up(_1, _2)
+            calls-at ! (fmOf 𝓤 H (W .laws) 𝓣) LooksUp known to
+            (and-then ! (load ! (from ! (stop !)) (look ! 6 refl))
+            (and-then ! (load ! (from ! (stop !)) (look ! 4 refl)) (no-more !))) (λ u.
+            use1 W (Answer κ q Answers u said) (id⊢ 𝓤 _) $
+            answers ! tt κ q Answers u said (LookedUp s n) tells (λ d e.
+            -- [the answer; the token; what the slice owns; room for _3; …; _2; …; _1; …; room for _0; …]
+            peeks ! Answers (Is Answers) (shows 𝓤 H A Answers) d (u ∷ []) (λ is.
+            land ! (from ! (stop !))
+            (init ! 3 refl (LL.lawful (T.the-type α₃) (T′.the-laws α₃) 𝓤 H A W .typed d _ is .0)) $
+            -- the answer is opened, and what the field owns is taken out of it
+            use1 W (given (u ∷ [] ≡ T′.lowered d ∷ []) (‵ (all-own (D κ .parts) (L κ) (fields κ d))))
+            (own-open 𝓤 H A W (D κ) (L κ) (fields κ d) u) $ learn ! (λ is-answer.
+            rewrite ! 3 (λ (w : Val). ‵ (fat fullShare (T′.mir erased) l₃ 0 w)) (ap only is-answer) refl $
+            use1 W (‵ (ownAt (D κ .parts) (L κ) k (getAt (D κ .parts) k (fields κ d))) ⊛
+            ‵ (rest (D κ .parts) (L κ) k (fields κ d)))
+            (own-out 𝓤 H A W (D κ .parts) (L κ) k (fields κ d)) $ split ! $ move ! (1 ∷ []) $ drop ! $
+            rewrite ! 0 (λ (w : Val). ‵ (Row k κ .own (valued k κ d) (w ∷ [])))
+            (sym (val-get (D κ .parts) (L κ) k (fields κ d))) refl $
+            peeks ! (Row k κ) (Is (Row k κ)) (shows 𝓤 H A (Row k κ)) (valued k κ d) (word k κ d ∷ []) (λ is-field.
+            let field-typed = lawAt (D κ .parts) (L κ) k .lawful 𝓤 H A W .typed _ _ is-field in
+            -- _0 = _3.k
+            assigns ! (of-opd ! (load ! (from ! (fld ! there (stop !))) (look-in ! 3 (sub ! k there (whole !)))))
+            (from ! (stop !))
+            (init ! 9 refl (subst (λ (τs : List Ty). Typed τs (word k κ d ∷ [])) one field-typed .0)) $
+            returns ! (look ! 9 refl) $ forget ! 3 refl $ forget ! 5 refl $ forget ! 7 refl $ forget ! 9 refl $
+            move ! (9 ∷ 10 ∷ []) $ free1 ! $ move ! (7 ∷ 8 ∷ []) $ free1 ! $ move ! (5 ∷ 6 ∷ []) $ free1 ! $
+            move ! (3 ∷ 4 ∷ []) $ free1 ! $ free0 ! $ by ! (exits d e))))))))))
 
 module _ {M : Type 1} (𝓤 : URA M) (H : Heap 𝓤) (𝓜 : Model 𝓤 H) (𝓖 : GhostRules 𝓤 H) (𝓡 : Running 𝓤 H 𝓜) where
+  -- γ is what the function's calls mean, and c its contract
   pub takes : (k : ℕ) {τ τ₃ : Ty} {o : ℕ} → fieldOf (T′.mir erased) k ≡ some (τ₃, o)
       → ((κ : Lft) → Row k κ .mir ≡ τ ∷ [])
       → (γ : Env) → γ #lines·look-up ≡ look-up-def.routine
-      → (c : Clauses 𝓤 (ended k))
-      → ((κ : Lft) (s : RefT (List ℕ)) (n : ℕ) (g : c (κ, tt) (s, (n, tt)) .ghost) → Shown k 𝓤 c κ s n g)
-      → Meets 𝓤 H (𝓖 .A) (ended k .signature)
-      (WpFn 𝓤 H (tables 𝓤 H 𝓜 𝓡 γ .C) (tables 𝓤 H 𝓜 𝓡 γ .Λ) (taking k τ)) (closing 𝓤 H (𝓖 .A) (ended k) c)
+      → (c : Clauses 𝓤 (ended w32 (result k)))
+      → ((κ : Lft) (s : RefT (List ℕ)) (n : ℕ) (g : c (κ, tt) (s, (n, tt)) .ghost) (d : Found) → LookedUp s n d
+      → ent 𝓤 (emp 𝓤) (Ensured 𝓤 w32 (result k) c κ s n g (valued k κ d)))
+      → Meets 𝓤 H (𝓖 .A) (ended w32 (result k) .signature)
+      (WpFn 𝓤 H (tables 𝓤 H 𝓜 𝓡 γ .C) (tables 𝓤 H 𝓜 𝓡 γ .Λ) (taking k τ))
+      (closing 𝓤 H (𝓖 .A) (ended w32 (result k)) c)
   unfolding tablesOf
   takes k {τ} there one γ calls c shown =
       let A = 𝓖 .A in
       let W = givenOf 𝓤 H 𝓜 𝓖 in
       let 𝓣 = tablesOf 𝓤 H 𝓜 (tables 𝓤 H 𝓜 𝓡 γ) in
-      let body = WpFn 𝓤 H (𝓣 .C) (𝓣 .Λ) (taking k τ) in
-      let known =
-      cited 𝓤 H (LooksUp 𝓤 H A (𝓜 .mem) (𝓡 .run)) 𝓜 𝓡 γ #lines·look-up look-up-def.routine calls
-      (look-up-thm.met 𝓤 H 𝓜 𝓖 𝓡) in
-      walk-meets 𝓤 H A (ended k) (stayed k) W (
-        goes-none-slice 𝓤 H A W 1 (0 ∷ []) tt (plain (λ _. u8)) yes,
-        (goes-none 𝓤 H A W 1 (λ _. u32) yes (λ κs x f. refl), tt),
-      )
-      c body (WpFn-mono 𝓤 H (W .laws) 𝓣 (taking k τ))
-      (walked 𝓤 H A (ended k) (stayed k) c body (λ κs. (slice-vals, (uint-vals w32, tt)))
-      (λ κs. (shr-slice-tells (named 0) (κs .0) u8, (uint-tells w32, tt)))
-      (λ κs qs bounds a g are.
-      via 𝓤 _ (fst∗ 𝓤 _ (c κs a .requires g)) (walk 𝓤 H A (𝓜 .mem) (𝓡 .run) k c W (κs .0) (qs .0) (a .0) (a .1 .0)
-      (are .1 .0 .1) g (shown (κs .0) (a .0) (a .1 .0) g) there (one (κs .0)) 𝓣 known (are .0))))
+      by-walk 𝓤 H A W w32 (result k) c 𝓣 (taking k τ) (λ κ q s n g fits is-slice.
+      walk 𝓤 H A (𝓜 .mem) (𝓡 .run) κ q s n W k there (one κ) 𝓣
+      (cited 𝓤 H (LooksUp 𝓤 H A (𝓜 .mem) (𝓡 .run)) 𝓜 𝓡 γ #lines·look-up look-up-def.routine calls
+      (look-up-thm.met 𝓤 H 𝓜 𝓖 𝓡)) fits is-slice (Left 𝓤 H A w32 (result k) c κ q s n g) (λ d e.
+      leaves 𝓤 H A W w32 (result k) c κ q s n g fits (valued k κ d) (word k κ d) (shown κ s n g d e)))
