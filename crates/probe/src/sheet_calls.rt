@@ -44,9 +44,10 @@ pub fn look_up(sheet: &mut [u8], raw: &mut [u8]) -> bool {
 }
 
 fn answer_look_up(sheet: &[u8], line: u32, raw: &mut [u8]) -> bool {
+    let number = lines::number_of(sheet, line);
     let span = lines::span_of(sheet, line);
     let part = lines::part_of(sheet, line);
-    let at = wire::put_word(raw, 0, span.number);
+    let at = wire::put_word(raw, 0, number);
     let at = wire::put_count(raw, at, span.start);
     let at = wire::put_bytes(raw, at, part);
     wire::send(raw, at)
