@@ -1,14 +1,20 @@
--- P1 to P12 and the errors that look right, by computation.
+-- P1 to P12, the errors that look right and the limits of soundness, by computation.
 -- Assumes nothing.
 use mathlib.Core.Path.{refl}
 use Rattle.figures.specs.Directory.{placeNew}
+use Rattle.figures.specs.Words.{decode}
+use Rattle.figures.specs.Sound.{carSound, cartSound, sound}
 use Rattle.figures.specs.Hand.{repeat}
 use Rattle.figures.specs.Car as Car
 use Rattle.figures.specs.Cart as Cart
 use Rattle.figures.specs.Request.{missed, serve}
 use Rattle.figures.specs.Run.{runFrom}
-use Rattle.figures.specs.Cases.{holds, CasesHold}
+use Rattle.figures.specs.Cases.{holds, CasesHold, LimitsHold}
 
 pub cases-hold : CasesHold
 unfolding holds placeNew runFrom serve missed repeat Car.evict Car.trim Car.placeB1 Car.placeB2 Cart.evict Cart.firstPass Cart.secondPass Cart.trim Cart.placeB1 Cart.placeB2
 cases-hold = refl
+
+pub limits-hold : LimitsHold
+unfolding sound carSound cartSound decode
+limits-hold = refl
