@@ -143,36 +143,72 @@ fn words_out_of_range() {
     broken(b"check policy 3", &mut two, 0, 3);
 }
 
+// The rules that both policies have, each broken by itself: U7 to U20 of crates/figures/specs/Cases.antt without U9.
 fn broken_rules() {
     let mut two = [0u32; 16];
     let trace = [1u32, 2, 1, 3, 2, 1, 4];
+    let long = [1u32, 2, 0, 0, 2, 1, 0, 0, 4, 0, 3, 0, 1, 0, 0, 0];
+    let room_b1 = [1u32, 2, 0, 0, 1, 0, 1, 0, 4, 0, 3, 0, 0, 0, 0, 0];
+    let room_b2 = [1u32, 2, 0, 0, 1, 0, 0, 1, 4, 0, 3, 0, 0, 0, 0, 0];
+    let unused = [1u32, 2, 0, 0, 1, 0, 0, 0, 4, 0, 1, 0, 0, 0, 0, 0];
     // after P3: T1 = 4, T2 = 1, B1 = 3, B2 = 2
     replay(1, 2, &trace, &mut two);
     show_number(b"sound CAR", directory::check(&two));
     broken(b"p over c", &mut two, 2, 3);
-    broken(b"T1 too long", &mut two, 4, 2);
-    broken(b"T1 of 4294967295", &mut two, 4, 4294967295);
-    broken(b"B1 too long", &mut two, 6, 2);
-    broken(b"histories while there is room", &mut two, 5, 0);
-    broken(b"a page twice", &mut two, 10, 4);
-    broken(b"flags of 4", &mut two, 9, 4);
+    show_number(b"T1 and T2 too long", directory::check(&long));
+    broken(b"B1 and B2 too long", &mut two, 7, 2);
+    show_number(b"B1 while there is room", directory::check(&room_b1));
+    show_number(b"B2 while there is room", directory::check(&room_b2));
+    broken(b"a page in T1 and T2", &mut two, 10, 4);
+    broken(b"a page in T1 and B2", &mut two, 14, 4);
+    broken(b"flags of 4, first entry", &mut two, 9, 4);
+    broken(b"flags of 4, last entry", &mut two, 15, 4);
     broken(b"a bit in B1", &mut two, 13, 1);
     broken(b"a bit in B2", &mut two, 15, 1);
-    broken(b"q for CAR", &mut two, 3, 1);
-    broken(b"a filter for CAR", &mut two, 9, 2);
-    broken(b"CAR's directory as CART's", &mut two, 0, 2);
+    show_number(b"the first unused word", directory::check(&unused));
     directory::fresh(1, 2, &mut two);
-    broken(b"an unused word", &mut two, 15, 1);
-    let long = [1u32, 2, 0, 0, 2, 0, 1, 0, 1, 0, 3, 0, 2, 0, 0, 0];
+    broken(b"the last unused word", &mut two, 15, 1);
+}
+
+// The rules of CAR: U21 to U24.
+fn broken_rules_of_car() {
+    let mut two = [0u32; 16];
+    let trace = [1u32, 2, 1, 3, 2, 1, 4];
+    let long = [1u32, 2, 0, 0, 2, 0, 1, 0, 4, 0, 1, 0, 3, 0, 0, 0];
+    // after P3: T1 = 4, T2 = 1, B1 = 3, B2 = 2
+    replay(1, 2, &trace, &mut two);
+    broken(b"q for CAR", &mut two, 3, 1);
+    broken(b"a filter in T1 for CAR", &mut two, 9, 2);
+    broken(b"a filter in B2 for CAR", &mut two, 15, 2);
     show_number(b"T1 and B1 too long for CAR", directory::check(&long));
-    replay(2, 2, &trace[..4], &mut two);
-    show_number(b"sound CART", directory::check(&two));
-    broken(b"q over 2c", &mut two, 3, 5);
-    broken(b"an L page in B1", &mut two, 13, 2);
+}
+
+// The rules of CART: U25 to U28, and U9, for |T1| + |T2| would wrap to 0.
+fn broken_rules_of_cart() {
+    let mut two = [0u32; 16];
+    let trace = [1u32, 2, 1, 3, 2, 1, 4];
     // after P8: T1 = 4, T2 = 1, B1 = 3, B2 = 2
     replay(2, 2, &trace, &mut two);
+    show_number(b"sound CART", directory::check(&two));
+    broken(b"q over 2c", &mut two, 3, 5);
     broken(b"an S page in T2", &mut two, 11, 0);
     broken(b"an S page in B2", &mut two, 15, 0);
+    broken(b"an L page in B1", &mut two, 13, 2);
+    broken(b"T1 of 4294967295", &mut two, 4, 4294967295);
+}
+
+// Sound directories at the limits: S1 to S5.
+fn directories_at_the_limits() {
+    let full = [1u32, 2, 2, 0, 1, 1, 1, 1, 4, 1, 1, 1, 3, 0, 2, 0];
+    let flags = [2u32, 2, 2, 4, 1, 1, 1, 1, 4, 3, 1, 3, 3, 0, 2, 2];
+    let short = [2u32, 2, 0, 0, 2, 0, 2, 0, 0, 0, 4294967295, 1, 3, 0, 2, 0];
+    let t2_b2 = [1u32, 2, 0, 0, 0, 2, 0, 2, 4, 0, 0, 0, 3, 0, 2, 0];
+    let room = [1u32, 2, 0, 0, 1, 0, 0, 0, 4, 1, 0, 0, 0, 0, 0, 0];
+    show_number(b"CAR at the limits", directory::check(&full));
+    show_number(b"CART at the limits", directory::check(&flags));
+    show_number(b"CART, T1 and B1 of 2c", directory::check(&short));
+    show_number(b"CAR, T2 and B2 of 2c", directory::check(&t2_b2));
+    show_number(b"CAR with room", directory::check(&room));
 }
 
 // A mark, then a run's answer: its number, then requests, hits, misses, evictions and moves.
@@ -242,6 +278,9 @@ fn main() {
     sizes_of_a_checked_directory();
     words_out_of_range();
     broken_rules();
+    broken_rules_of_car();
+    broken_rules_of_cart();
+    directories_at_the_limits();
     worked_run(b"worked run, CAR", 1);
     worked_run(b"worked run, CART", 2);
     runs_at_the_ends();
