@@ -1,4 +1,4 @@
-// Document 01's cases through the code: P1 to P12, the limits, each soundness rule broken once, pages 0 and 4,294,967,295.
+// Document 01's cases through the code: P1 to P12, the limits, each soundness rule broken by itself, pages 0 and 4,294,967,295.
 // It prints what each call gave, and the gate compares that with the file stdout.
 
 fn space_and(n: u32) {

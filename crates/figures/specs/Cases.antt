@@ -1,4 +1,4 @@
--- The runs that document 01 shows, P1 to P12; traces that show the errors that look right, E1 to E34; and directories
+-- The runs that document 01 shows, P1 to P12; traces that show the errors that look right, E1 to E39; and directories
 -- that break one rule of soundness, U1 to U28, or stand at its limit, S1 to S7. docs/FAULTS.md has what each refuses.
 use mathlib.Core.Path.{_≡_}
 use mathlib.Core.Bool.{Bool, true, false}
@@ -290,6 +290,54 @@ looksRight =
     ∷ t2 (3 ∷ 2 ∷ 4 ∷ 2 ∷ 5 ∷ 2 ∷ [])
     ∷ b1 []
     ∷ b2 (2 ∷ 2 ∷ [])
+    ∷ [])
+    -- E35 line 18 of Figure 2 with p set to 0 at once
+    ∷ case car 2 (1 ∷ 1 ∷ 2 ∷ 3 ∷ 2 ∷ 3 ∷ 1 ∷ []) (
+    answered 4 2 2 1
+    ∷ p 1
+    ∷ t1 []
+    ∷ t2 (3 ∷ 0 ∷ 1 ∷ 0 ∷ [])
+    ∷ b1 []
+    ∷ b2 (2 ∷ 0 ∷ [])
+    ∷ [])
+    -- E36 the head of B2 taken out where another of its pages is requested
+    ∷ case car 2 (1 ∷ 1 ∷ 2 ∷ 2 ∷ 3 ∷ 3 ∷ 4 ∷ 2 ∷ []) (
+    answered 4 4 1 1
+    ∷ p 0
+    ∷ t1 []
+    ∷ t2 (3 ∷ 0 ∷ 2 ∷ 0 ∷ [])
+    ∷ b1 (4 ∷ 0 ∷ [])
+    ∷ b2 (1 ∷ 0 ∷ [])
+    ∷ [])
+    -- E37 line 30 for an L page too: n_S and n_L then change
+    ∷ case cart 2 (1 ∷ 2 ∷ 3 ∷ 1 ∷ 2 ∷ 4 ∷ 3 ∷ 3 ∷ 5 ∷ 2 ∷ []) (
+    answered 4 5 1 2
+    ∷ p 1
+    ∷ q 2
+    ∷ t1 (3 ∷ 2 ∷ 2 ∷ 2 ∷ [])
+    ∷ t2 []
+    ∷ b1 (4 ∷ 0 ∷ 5 ∷ 0 ∷ [])
+    ∷ b2 []
+    ∷ [])
+    -- E38 line 30 with n_L for n_S, or n_S for n_L
+    ∷ case cart 3 (1 ∷ 2 ∷ 3 ∷ 4 ∷ 1 ∷ 2 ∷ 5 ∷ 3 ∷ 2 ∷ 6 ∷ 7 ∷ 8 ∷ 6 ∷ 2 ∷ []) (
+    answered 4 7 1 2
+    ∷ p 2
+    ∷ q 2
+    ∷ t1 (8 ∷ 0 ∷ 6 ∷ 2 ∷ 2 ∷ 2 ∷ [])
+    ∷ t2 []
+    ∷ b1 (4 ∷ 0 ∷ 5 ∷ 0 ∷ 7 ∷ 0 ∷ [])
+    ∷ b2 []
+    ∷ [])
+    -- E39 line 39 with n_S for n_L
+    ∷ case cart 5 (1 ∷ 9 ∷ 5 ∷ 7 ∷ 4 ∷ 9 ∷ 0 ∷ 0 ∷ 5 ∷ 2 ∷ 2 ∷ 10 ∷ 1 ∷ 1 ∷ 6 ∷ 10 ∷ 9 ∷ []) (
+    answered 4 5 2 2
+    ∷ p 0
+    ∷ q 6
+    ∷ t1 (9 ∷ 2 ∷ [])
+    ∷ t2 (0 ∷ 2 ∷ 2 ∷ 2 ∷ 1 ∷ 2 ∷ 10 ∷ 2 ∷ [])
+    ∷ b1 (7 ∷ 0 ∷ 4 ∷ 0 ∷ 6 ∷ 0 ∷ [])
+    ∷ b2 (5 ∷ 2 ∷ [])
     ∷ [])
     ∷ []
 
