@@ -1,5 +1,5 @@
--- The runs that document 01 shows, P1 to P12; traces that show the errors that look right, E1 to E39; and directories
--- that break one rule of soundness, U1 to U28, or stand at its limit, S1 to S7. docs/FAULTS.md has what each refuses.
+-- The runs that document 01 shows, P1 to P12; traces that show the errors that look right, E1 to E41; and directories
+-- that break one rule of soundness, U1 to U28, or stand at its limit, S1 to S7. See docs/FAULTS.md, "Lines of the figures".
 use mathlib.Core.Path.{_≡_}
 use mathlib.Core.Bool.{Bool, true, false}
 use mathlib.Core.List.{List, [], _∷_, _++_, map}
@@ -338,6 +338,24 @@ looksRight =
     ∷ t2 (0 ∷ 2 ∷ 2 ∷ 2 ∷ 1 ∷ 2 ∷ 10 ∷ 2 ∷ [])
     ∷ b1 (7 ∷ 0 ∷ 4 ∷ 0 ∷ 6 ∷ 0 ∷ [])
     ∷ b2 (5 ∷ 2 ∷ [])
+    ∷ [])
+    -- E40 line 15 of Figure 2 with the quotient rounded up
+    ∷ case car 4 (1 ∷ 1 ∷ 2 ∷ 2 ∷ 3 ∷ 3 ∷ 4 ∷ 5 ∷ 4 ∷ 5 ∷ 6 ∷ 7 ∷ 8 ∷ 6 ∷ []) (
+    answered 3 7 1 1
+    ∷ p 3
+    ∷ t1 (8 ∷ 0 ∷ [])
+    ∷ t2 (4 ∷ 0 ∷ 5 ∷ 0 ∷ 6 ∷ 0 ∷ [])
+    ∷ b1 (7 ∷ 0 ∷ [])
+    ∷ b2 (1 ∷ 0 ∷ 2 ∷ 0 ∷ 3 ∷ 0 ∷ [])
+    ∷ [])
+    -- E41 line 18 of Figure 2 with the quotient rounded up
+    ∷ case car 4 (1 ∷ 1 ∷ 2 ∷ 2 ∷ 3 ∷ 4 ∷ 5 ∷ 3 ∷ 4 ∷ 6 ∷ 7 ∷ 8 ∷ 1 ∷ []) (
+    answered 4 7 1 1
+    ∷ p 1
+    ∷ t1 (8 ∷ 0 ∷ [])
+    ∷ t2 (3 ∷ 0 ∷ 4 ∷ 0 ∷ 1 ∷ 0 ∷ [])
+    ∷ b1 (5 ∷ 0 ∷ 6 ∷ 0 ∷ 7 ∷ 0 ∷ [])
+    ∷ b2 (2 ∷ 0 ∷ [])
     ∷ [])
     ∷ []
 
