@@ -1,5 +1,5 @@
 -- The runs that document 01 shows, P1 to P12; traces that show the errors that look right, E1 to E41; and directories
--- that break one rule of soundness, U1 to U28, or stand at its limit, S1 to S7. See docs/FAULTS.md, "Lines of the figures".
+-- that break one rule of soundness, U1 to U28, or stand at its limit, S1 to S7. See docs/FAULTS.md.
 use mathlib.Core.Path.{_≡_}
 use mathlib.Core.Bool.{Bool, true, false}
 use mathlib.Core.List.{List, [], _∷_, _++_, map}
