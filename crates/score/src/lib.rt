@@ -1,15 +1,18 @@
 // The scoring program: a bid sheet from standard input, its result sheet or two lines of a refusal to standard output.
 // What it prints is scoring::score's, which is proved. Of a sheet that is too long, one byte too many is read.
-fn print_score(
-    sheet: &[u8],
+fn score_input(
+    sheet: &mut [u8],
     pages: &mut [u32],
     dir: &mut [u32],
     answers: &mut [u32],
     out: &mut [u8],
-) -> bool {
-    let scored = scoring::score(sheet, pages, dir, answers, out);
+) -> i32 {
+    let streams::Input::Came(n) = streams::read_input(sheet) else {
+        return 1;
+    };
+    let scored = scoring::score(&sheet[0..n], pages, dir, answers, out);
     let count = scored.count;
-    streams::print(&out[0..count])
+    if streams::print(&out[0..count]) { 0 } else { 1 }
 }
 
 // The program, which c/main.c starts: its status.
@@ -20,12 +23,5 @@ pub extern "C" fn program() -> i32 {
     let mut dir = [0u32; 4104];
     let mut answers = [0u32; 4000];
     let mut out = [0u8; 256];
-    let streams::Input::Came(n) = streams::read_input(&mut sheet) else {
-        return 1;
-    };
-    if print_score(&sheet[0..n], &mut pages, &mut dir, &mut answers, &mut out) {
-        0
-    } else {
-        1
-    }
+    score_input(&mut sheet, &mut pages, &mut dir, &mut answers, &mut out)
 }

@@ -9,7 +9,7 @@ use lib.Seq.{take-add}
 use borrow.Rule.Slice.PartMut.{midOf, putMid, mid-len, same-len-mid, take-put}
 use Rattle.streams.specs.Reads.{put, Some, GoesOn, ReadAt, Reads, none, more, came, ended, full, Whole, Handed}
 use Rattle.streams.specs.declared.Input.{Input}
-use Rattle.streams.specs.declared.Input.the-variants.{Failed}
+use Rattle.streams.specs.declared.Input.the-variants.{Came, Failed}
 use Rattle.streams.specs.declared.Got.{Got}
 use Rattle.streams.specs.declared.Got.the-variants.{End, Interrupted}
 
@@ -68,3 +68,7 @@ filled {v = v} h all =
 
 pub handed-nothing : (w v : List ℕ) {r : Input} → r ≡ Failed → length v ≡ length w → Handed w r v
 handed-nothing w v is same = subst (λ (r : Input). Handed w r v) (sym is) same
+
+-- What came fits into the buffer.
+pub came-fits : (w v : List ℕ) {r : Input} {n : ℕ} → r ≡ Came n → Handed w r v → n ≤ length v
+came-fits w v is handed = subst (λ (r : Input). Handed w r v) is handed .fits
