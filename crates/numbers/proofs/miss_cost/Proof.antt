@@ -22,7 +22,7 @@ add-if1 c = search needs
 returns : tie.Need-returns
 returns c =
     let s = c .before .before .before .args .text .now in
-    sym (no-cost s (λ h. c .if1 .taken (three-after s _ (c .before .place-of .ensures .0) h)))
+    sym (no-cost s (λ h. omega (arith, three-after s _ (c .before .place-of .ensures .0) h)))
 
 slice-aggregate-before : tie.Need-slice-aggregate-before
 slice-aggregate-before c = sym (length-take-le _ _ (c .before .before .place-of .ensures .1))
@@ -71,8 +71,7 @@ returns-3 c =
     let place = c .before .before .before .before .before .before .before .before .place-of .ensures .0 in
     let form = holds (c .before .before .before .before .in-form .ensures) (c .before .before .before .if2 .left) in
     let all = holds (c .before .before .all-digits .ensures) (c .before .if3 .left) in
-    let long = c .before .before .before .before .before .before .before .if1 .left in
-    ap means (c .thousandths .ensures) ∙ sym (cost-from-parts s _ place long form all)
+    ap means (c .thousandths .ensures) ∙ sym (cost-from-parts s _ place (omega arith) form all)
 
 pub miss-cost-spec : {M : Type 1} → statement M
 miss-cost-spec =
