@@ -73,7 +73,7 @@ module _ (w trace answers : List ℕ) where
 
   module _ {i : ℕ} {v given : List ℕ} {t : Tally} (m : Midway w trace answers i v given t) where
     -- One request more.
-    module _ (more : i < ∣ trace ∣) {v′ given′ : List ℕ} {t′ : Tally} (s : Stepped (getD trace i 0) v given (4 * i) t t′ v′ given′) where
+    module _ (more : i < ∣ trace ∣) {at : ℕ} (at-is : at ≡ 4 * i) {v′ given′ : List ℕ} {t′ : Tally} (s : Stepped (getD trace i 0) v given at t t′ v′ given′) where
       abbrev served : Served
       served = request (getD trace i 0) (decode v)
 
@@ -88,7 +88,7 @@ module _ (w trace answers : List ℕ) where
           let kept : take (4 * i) given ≡ m .front = rw (m .answers-are) (take-at (m .front) _ (4 * i) (m .front-is)) in
           let later : drop (4 * i + 4) given ≡ drop (4 * i + 4) answers =
           rw (m .answers-are, ← m .front-is, drop-append-add, drop-drop) in
-          s .answers-are ∙ rw (kept, later, four, append-assoc)
+          s .answers-are ∙ rw (at-is, kept, later, four, append-assoc)
 
       next-run : before (m .front ++ answer served) (runFrom (defined t′) (drop (i + 1) trace) (decode v′)) ≡ run trace (decode w)
       unfolding runFrom

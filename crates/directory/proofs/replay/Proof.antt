@@ -49,7 +49,7 @@ loop-again : tie.Need-loop-again Inv-loop μ-loop
 loop-again c =
     let t = c .before .before .before .before in
     let l = t .before .before .before .before .before in
-    (goes-on _ _ _ (l .loop .inv .0) (omega arith) (t .step .ensures), omega arith, omega arith)
+    (goes-on _ _ _ (l .loop .inv .0) (omega arith) (omega arith) (t .step .ensures), omega arith, omega arith)
 
 same-length : tie.Need-same-length Inv-loop μ-loop
 same-length c = c .before .loop .inv .1
