@@ -1,4 +1,5 @@
 -- The buffer and the sheet's length are asked before the lines.
+use native.Mathlib.Omega.{arith}
 use borrow.Author.Needs.{needs}
 use Rattle.bid.proofs.Reader.{short-buffer, long-sheet, by-lines}
 use Rattle.bid.proofs.read.Statement.{statement}
@@ -8,13 +9,13 @@ refused-requires : tie.Need-refused-requires
 refused-requires c κs = search needs
 
 returns : tie.Need-returns
-returns c = short-buffer _ _ (c .before .if1 .taken) (c .refused .ensures)
+returns c = short-buffer _ _ (omega arith) (c .refused .ensures)
 
 refused-requires-2 : tie.Need-refused-requires-2
 refused-requires-2 c κs = search needs
 
 returns-2 : tie.Need-returns-2
-returns-2 c = long-sheet _ _ (c .before .before .if1 .left) (c .before .if2 .taken) (c .refused2 .ensures)
+returns-2 c = long-sheet _ _ (omega arith) (omega arith) (c .refused2 .ensures)
 
 read-lines-requires : tie.Need-read-lines-requires
 read-lines-requires c κs = search needs
@@ -23,9 +24,7 @@ same-length : tie.Need-same-length
 same-length c = search needs
 
 returns-3 : tie.Need-returns-3
-returns-3 c =
-    let read = c .before .before in
-    by-lines _ _ (read .before .before .before .if1 .left) (read .before .before .if2 .left) (read .read-lines .ensures)
+returns-3 c = by-lines _ _ (omega arith) (omega arith) (c .before .before .read-lines .ensures)
 
 pub read-spec : {M : Type 1} → statement M
 read-spec =
