@@ -33,7 +33,7 @@ same-length c = search needs
 returns : tie.Need-returns
 returns c d is =
     let j = c .before .before .before .if1 in
-    lowered d is (j .less) (c .greatest .result) (⊎-elim (λ w. omega arith) (λ w. omega arith) (j .came)) (c .greatest .ensures)
+    lowered d is (j .less) (c .greatest .result) (⊎-elim (λ w. omega arith) (λ w. omega arith) (j .came)) (omega (arith, c .greatest .ensures))
 
 pub lower-spec : {M : Type 1} → statement M
 lower-spec =
