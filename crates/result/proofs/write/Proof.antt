@@ -1,5 +1,6 @@
 -- The refusals by their tests; the sheet has room, as it is at most 256 bytes long.
-use mathlib.Core.Path.{sym, _∙_}
+use mathlib.Core.Path.{_≡_, sym, _∙_}
+use mathlib.Core.Bool.{Bool, true, false, not}
 use native.Mathlib.Omega.{arith}
 use borrow.Author.Needs.{needs}
 use borrow.Author.Tests.{not-true, not-false}
@@ -9,14 +10,15 @@ use Rattle.result.proofs.Refused.{sheet-policy, sheet-short, sheet-writ
 use Rattle.result.proofs.write.Statement.{statement}
 use Rattle.result.proofs.write.Tie as tie
 
+-- What `!answer` tells of the test that was answered.
+unknown : {answer test : Bool} → answer ≡ test → not answer ≡ true → test ≡ false
+unknown said taken = sym said ∙ not-true _ taken
+
 known-policy-requires : tie.Need-known-policy-requires
 known-policy-requires c κs = search needs
 
 returns : tie.Need-returns
-returns c =
-    let k = c .before .known-policy in
-    let a = c .before .before .before .args in
-    sheet-policy (a .outcome) (a .out .now) (sym (k .ensures) ∙ not-true (k .result) (c .if1 .taken))
+returns c = sheet-policy _ _ (search unknown)
 
 returns-2 : tie.Need-returns-2
 returns-2 c =
