@@ -1,4 +1,4 @@
--- The ledger: its lines put one after another, and behind what is printed of the sheet.
+-- A ledger's lines: one put from a place on, and all put one after another.
 -- Assumes nothing.
 use mathlib.Core.Path.{_≡_, refl, _∙_}
 use mathlib.Core.List.{List, [], _∷_, _++_}
@@ -30,33 +30,38 @@ four-words t (x ∷ trace) d =
     let rest = four-words (noted s t) trace (s .dir) in
     simp length-append (omega (arith, rest))
 
+-- The number of request i, counted from 0, and the places of its answer's words.
+pub record Places (i number kind evicted list moves : ℕ) : Type 0 where
+  pub number-is : number ≡ i + 1
+  pub kind-at : kind ≡ 4 * i
+  pub evicted-at : evicted ≡ 4 * i + 1
+  pub list-at : list ≡ 4 * i + 2
+  pub moves-at : moves ≡ 4 * i + 3
+
 -- One line, written into the 256 bytes from a place on.
 module _ {i at : ℕ} {pages answers out : List ℕ} (h : Request i at pages answers out) where
-  abbrev written : List ℕ
-  written =
-      requestLine
-      (i + 1)
-      (getD pages i 0)
-      (getD answers (4 * i) 0)
-      (getD answers (4 * i + 1) 0)
-      (getD answers (4 * i + 2) 0)
-      (getD answers (4 * i + 3) 0)
+  abbrev written : ℕ → ℕ → ℕ → ℕ → ℕ → List ℕ
+  written number kind evicted list moves =
+      requestLine number (getD pages i 0) (getD answers kind 0) (getD answers evicted 0) (getD answers list 0) (getD answers moves 0)
 
-  its-line : written ≡ ledgerLine (i + 1) (getD pages i 0) (drop (4 * i) answers)
-  its-line = simp (getD-drop, add-zero)
+  its-line : {number kind evicted list moves : ℕ} → Places i number kind evicted list moves
+      → written number kind evicted list moves ≡ ledgerLine (i + 1) (getD pages i 0) (drop (4 * i) answers)
+  its-line p = simp (p .number-is, p .kind-at, p .evicted-at, p .list-at, p .moves-at, getD-drop, add-zero)
 
   -- As many bytes as the code lends, from the place on to the place and 256.
   abbrev lent : ℕ
   lent = at + 256 - at
 
-  pub line-put : {r : Written} {part : List ℕ} → Wrote (onWriteText written (take lent (drop at out))) r part
-      → ∣ part ∣ ≡ ∣ take lent (drop at out) ∣
+  pub line-put : {number kind evicted list moves : ℕ} {r : Written} {part : List ℕ}
+      → Wrote (onWriteText (written number kind evicted list moves) (take lent (drop at out))) r part
+      → Places i number kind evicted list moves → ∣ part ∣ ≡ ∣ take lent (drop at out) ∣
       → LinePut i at pages answers out (at + r .count) (take at out ++ (part ++ drop lent (drop at out)))
-  line-put {part = part} wrote same =
+  line-put {number} {kind} {evicted} {list} {moves} {part = part} wrote places same =
+      let line = written number kind evicted list moves in
       let long = length-take-le lent (drop at out) (omega (arith, h .out-fits, length-drop at out)) in
-      let over = text-over written (take lent (drop at out)) wrote (omega (arith, long)) in
-      let put = part-put out written part at lent (omega (arith, h .out-fits)) over same in
-      record { line-put = put-as its-line (put .is-put); not-far = omega (arith, put .not-far) }
+      let over = text-over line (take lent (drop at out)) wrote (omega (arith, long)) in
+      let put = part-put out line part at lent (omega (arith, h .out-fits)) over same in
+      record { line-put = put-as (its-line places) (put .is-put); not-far = omega (arith, put .not-far) }
 
 -- After i lines the bytes are `w`, up to a place: what is left to put from here is the whole from the start.
 pub record Midway (out : List ℕ) (at : ℕ) (pages answers : List ℕ) (i : ℕ) (w : List ℕ) (place : ℕ) : Type 0 where

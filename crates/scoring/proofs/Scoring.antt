@@ -13,7 +13,6 @@ use Rattle.tally.specs.declared.Tally.{Tally}
 use Rattle.sheets.specs.Bid.{meaning}
 use Rattle.sheets.specs.Demands.{InRange}
 use Rattle.sheets.specs.Result.{resultSheet, refusedSheet}
-use Rattle.sheets.specs.Refusals.{over}
 use Rattle.sheets.proofs.Bids.{bids-in-range}
 use Rattle.bid.specs.declared.Bid.{Bid}
 use Rattle.bid.specs.Promises.{BidRead}

@@ -21,6 +21,7 @@ use Rattle.scoring.specs.Scored.{replayed, printed, ledgerLine}
 use Rattle.scoring.specs.Refusals.{answered}
 use Rattle.scoring.specs.Promises.{Answers}
 
+-- A refused call's answer: its number, its line, and how many bytes say so.
 abbrev pub refusedScored : ℕ → ℕ → ℕ → Scored
 refusedScored number line count = record { number = number; line = line; count = count; requests = 0 }
 

@@ -52,6 +52,7 @@ servedScore b text pages dir answers out = record {
   out = over text out;
 }
 
+-- The sheet's meaning decides.
 abbrev pub answered : Meaning → List ℕ → List ℕ → List ℕ → List ℕ → List ℕ → Scoring
 answered (bid b) = servedScore b
 answered (refused number line) = refusedScore number line

@@ -72,7 +72,7 @@ add-result : tie.Need-add-result
 add-result c =
     let written = c .before .before .before in
     let h = written .before .before .before .before .before .before .before .before .before .before .pre in
-    let put = line-put h (written .write-request .ensures) (c .before .before .out .given .0) in
+    let put = line-put h (written .write-request .ensures) (search needs) (c .before .before .out .given .0) in
     omega (arith, put .not-far, h .out-fits)
 
 same-length : tie.Need-same-length
@@ -81,7 +81,7 @@ same-length c = search needs
 returns : tie.Need-returns
 returns c =
     let written = c .before .before .before in
-    line-put (written .before .before .before .before .before .before .before .before .before .before .pre) (written .write-request .ensures) (c .before .before .out .given .0)
+    line-put (written .before .before .before .before .before .before .before .before .before .before .pre) (written .write-request .ensures) (search needs) (c .before .before .out .given .0)
 
 pub put-request-spec : {M : Type 1} → statement M
 put-request-spec =
