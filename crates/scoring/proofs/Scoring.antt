@@ -27,8 +27,8 @@ use Rattle.scoring.proofs.Reading.{Accepted, sheet-refused, sheet-accep
 use Rattle.scoring.proofs.Writing.{sheet-over, text-over, over-fits}
 
 -- What `score_bid` hands the writer.
-abbrev handed : Bid → Tally → Outcome
-handed b t = record {
+abbrev handed : Bid → Tally → ℕ → Outcome
+handed b t wait = record {
   policy = b .policy;
   pages = b .c;
   requests = t .requests;
@@ -36,7 +36,7 @@ handed b t = record {
   misses = t .misses;
   evictions = t .evictions;
   steps = t .moves;
-  wait = t .misses * b .cost;
+  wait = wait;
 }
 
 module _ {b : Bid} {pages dir answers out : List ℕ} (h : Good b pages dir answers out) where
@@ -54,16 +54,17 @@ module _ {b : Bid} {pages dir answers out : List ℕ} (h : Good b pages dir answ
         room = omega (arith, h .few, many, h .lent .answers-fit);
       }
 
-  pub bid-scored : {t : Tally} {w answers′ out′ : List ℕ} {r : Written}
+  pub bid-scored : {t : Tally} {w answers′ out′ : List ℕ} {wait : ℕ} {r : Written}
       → RanFresh (b .policy) (b .c) (take (b .count) pages) answers t w answers′
       → ∣ w ∣ ≡ ∣ take (8 + 4 * b .c) dir ∣
-      → WroteSheet (handed b t) out r out′
+      → wait ≡ t .misses * b .cost
+      → WroteSheet (handed b t wait) out r out′
       → BidScored b pages dir answers out (record { number = 0; line = 0; count = r .count; requests = b .count })
       (w ++ drop (8 + 4 * b .c) dir) answers′ out′
   unfolding printed
-  bid-scored {t} {w} {out′ = out′} {r} ran same wrote =
+  bid-scored {t} {w} {out′ = out′} {wait} {r} ran same is wrote =
       let known = known-policy (b .policy) (h .policy-known .0) (h .policy-known .1) in
-      let front = sheet-over (handed b t) out wrote known (h .lent .out-fits) in
+      let front = sheet-over (handed b t wait) out wrote known (h .lent .out-fits) in
       let long : ∣ encode (replayed (meant b pages) .dir) ∣ ≡ 8 + 4 * b .c
       = ap ∣_∣ (sym (ran .words-are)) ∙ same ∙ dir-part in
       record {
@@ -78,7 +79,7 @@ module _ {b : Bid} {pages dir answers out : List ℕ} (h : Good b pages dir answ
             subst
             (λ (x : Run.Tally). Over (resultSheet (outcome (meant b pages) x)) out (r .count) out′)
             (ran .tally-is)
-            front;
+            (rw is at front);
       }
 
 module _ (s pages dir answers out : List ℕ) (lent : Lent 256 pages dir answers out) (b : Bid) (pages′ : List ℕ)

@@ -9,7 +9,7 @@ ghost use Rattle.scoring.specs.Ready.{Fitting, RanFresh, Good, BidScored
 ghost use Rattle.scoring.specs.Ready.{refusedScored, Request, LinePut, Requests};
 ghost use Rattle.scoring.specs.Promises.{SheetScored, SheetLedgered};
 
-// The least numbers of lent words: pages, a directory of 1,024, and answers.
+// The least numbers of lent words: pages, a directory of 1,024 (8 + 4c words), and answers.
 const PAGES: usize = 1000;
 
 const WORDS: usize = 4104;
@@ -55,6 +55,13 @@ fn replay(policy: u32, c: u32, trace: &[u32], dir: &mut [u32], answers: &mut [u3
     ran.tally
 }
 
+// Misses at a cost each.
+fn wait(misses: u32, cost: u32) -> u64
+    ensures { λ r. ⌜ r ≡ misses * cost ⌝ }
+{
+    misses as u64 * cost as u64
+}
+
 // Replays a good bid, and writes its result sheet.
 fn score_bid(
     bid: bid::Bid,
@@ -86,7 +93,7 @@ fn score_bid(
             misses: t.misses,
             evictions: t.evictions,
             steps: t.moves,
-            wait: t.misses as u64 * bid.cost as u64,
+            wait: wait(t.misses, bid.cost),
         },
     );
     Scored {
@@ -183,6 +190,7 @@ fn ledger_sheet(
     }
 }
 
+// Whether the lent memory is enough for any bid, with at least so many bytes to print into.
 fn lends_enough(least: usize, pages: &[u32], dir: &[u32], answers: &[u32], out: &[u8]) -> bool
     ensures { λ r. ⌜ r ≡ enough least (now (pages .entry)) (now (dir .entry))
         (now (answers .entry)) (now (out .entry)) ⌝ }

@@ -3,7 +3,6 @@ use mathlib.Core.Path.{sym}
 use native.Mathlib.Omega.{arith}
 use lib.Seq.{length-take-le}
 use borrow.Author.Needs.{needs}
-use Rattle.scoring.proofs.Writing.{wait-fits}
 use Rattle.scoring.proofs.Scoring.{fitting, bid-scored}
 use Rattle.scoring.proofs.score_bid.Statement.{statement}
 use Rattle.scoring.proofs.score_bid.Tie as tie
@@ -35,16 +34,8 @@ slice-aggregate-replay-2 c =
 replay-requires : tie.Need-replay-requires
 replay-requires c κs = fitting (c .before .before .before .before .before .before .before .before .before .pre)
 
-cast-t20 : tie.Need-cast-t20
-cast-t20 c = search needs
-
-cast-t21 : tie.Need-cast-t21
-cast-t21 c = search needs
-
-mul-t22 : tie.Need-mul-t22
-mul-t22 c = record {
-  fits = wait-fits _ _ (c .before .struct-known3 .given .1 .1 .0 .fits) (c .struct-known4 .given .1 .1 .1 .1 .0 .fits);
-}
+wait-requires : tie.Need-wait-requires
+wait-requires c κs = search needs
 
 write-requires : tie.Need-write-requires
 write-requires c κs = search needs
@@ -61,9 +52,15 @@ same-length-3 c = search needs
 returns : tie.Need-returns
 returns c =
     let written = c .before .before in
-    let back = written .before .before .before .before .before .before .before in
+    let back = written .before .before .before .before .before .before in
     let replayed = back .before in
-    bid-scored (replayed .before .before .before .before .before .before .before .before .before .before .pre) (replayed .replay .ensures) (back .dir .given .0) (written .write .ensures)
+    let start = replayed .before .before .before .before .before .before .before .before .before .before in
+    bid-scored
+    (start .pre)
+    (replayed .replay .ensures)
+    (back .dir .given .0)
+    (written .before .wait .ensures)
+    (written .write .ensures)
 
 pub score-bid-spec : {M : Type 1} → statement M
 score-bid-spec =
@@ -77,9 +74,7 @@ score-bid-spec =
     slice-relend-prefix-replay
     slice-aggregate-replay-2
     replay-requires
-    cast-t20
-    cast-t21
-    mul-t22
+    wait-requires
     write-requires
     same-length
     same-length-2
