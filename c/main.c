@@ -1,7 +1,7 @@
-// Every program starts here: a Rattle program has no exit status, so each is a proved library that exports `program`,
-// which answers the status. The declaration is checked by nobody but its reader; it says what the crates' `program` says.
-int program(void);
+// Starts a program: a Rattle program has no exit status, so each is a function of a proved library that answers it.
+// PROGRAM is its name (-DPROGRAM=score). Nothing but the gate's tests checks this declaration against the library.
+int PROGRAM(void);
 
 int main(void) {
-    return program();
+    return PROGRAM();
 }

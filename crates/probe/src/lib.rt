@@ -78,7 +78,7 @@ fn calls(
 
 // The program, which c/main.c starts: its status.
 #[no_mangle]
-pub extern "C" fn program() -> i32 {
+pub extern "C" fn probe() -> i32 {
     let mut dir = [0u32; 4200];
     let mut pages = [0u32; 1100];
     let mut answers = [0u32; 4500];

@@ -10,8 +10,11 @@ pub fn load(name: &[u8], buffer: &mut [u8]) -> usize
         io::write_all(1, b"no file ");
         return 0;
     }
-    let n = io::read_full(fd, buffer);
+    let read = streams::read_from(fd, name, buffer);
     libc::close(fd);
+    let streams::Input::Came(n) = read else {
+        return 0;
+    };
     n
 }
 

@@ -1,12 +1,12 @@
-// Standard input and output for every program here: read whole and written whole, or said why not, in one line on
-// standard error. The program that is told of a failure prints nothing more and ends with a status that is not 0.
+// What every program here reads and writes by: read whole and written whole, or said why not, in one line on standard
+// error. The program that is told of a failure prints nothing more and ends with a status that is not 0.
 ghost use mathlib.Core.Path.{_≡_};
 ghost use Prim.Native.Nat.{_≤_};
 ghost use lib.ListN.{length};
 ghost use Rattle.libc.specs.Io.{Moved};
 ghost use Rattle.streams.specs.Reads.{Tells, ReadAt, Handed};
 
-// What came of standard input: so many bytes, fewer than were asked for only where the input ended; or a read failed.
+// What came of a file, as standard input: so many bytes, fewer than were asked for only where the input ended; or a read failed.
 pub enum Input {
     Came(usize),
     Failed,
@@ -41,42 +41,49 @@ fn told(got: isize, part: &[u8]) -> Got
     Got::Failed
 }
 
-// One read, from a place of the buffer on.
-fn read_once(buf: &mut [u8], at: usize) -> Got
+// One read, to a place of the buffer on.
+fn read_once(fd: i32, buf: &mut [u8], at: usize) -> Got
     requires { ⌜ at ≤ length (now buf) ⌝ }
     ensures { λ r. ⌜ ReadAt (now (buf .entry)) at r (now (buf .exit)) ⌝ }
 {
     let part = &mut buf[at..];
-    let got = libc::read(libc::STDIN_FILENO, part);
+    let got = libc::read(fd, part);
     told(got, part)
 }
 
-fn failed() -> Input
+fn failed(what: &[u8]) -> Input
     ensures { λ r. ⌜ r ≡ Input.Failed ⌝ }
 {
-    os::fail(b"reading standard input");
+    os::fail(what);
     Input::Failed
 }
 
-// Reads until the input ends or the buffer is full.
-pub fn read_input(buf: &mut [u8]) -> Input
+// Reads until the file ends or the buffer is full; where a read fails, that is said by these words.
+pub fn read_from(fd: i32, what: &[u8], buf: &mut [u8]) -> Input
     ensures { λ r. ⌜ Handed (now (buf .entry)) r (now (buf .exit)) ⌝ }
 {
     let mut at = 0;
     let mut tries = TRIES;
     while at < buf.len() && 0 < tries {
-        let got = read_once(buf, at);
+        let got = read_once(fd, buf, at);
         match got {
             Got::Bytes(n) => at += n,
             Got::End => return Input::Came(at),
             Got::Interrupted => tries -= 1,
-            Got::Failed => return failed(),
+            Got::Failed => return failed(what),
         }
     }
     if at < buf.len() {
-        return failed();
+        return failed(what);
     }
     Input::Came(at)
+}
+
+// Standard input, read so.
+pub fn read_input(buf: &mut [u8]) -> Input
+    ensures { λ r. ⌜ Handed (now (buf .entry)) r (now (buf .exit)) ⌝ }
+{
+    read_from(libc::STDIN_FILENO, b"reading standard input", buf)
 }
 
 // Writes all of a text to standard output, and answers whether that went well.

@@ -5,24 +5,6 @@ use Rattle.scoring.proofs.Lending.{lent, short-answers, sheet-answers}
 use Rattle.scoring.proofs.ledger.Statement.{statement}
 use Rattle.scoring.proofs.ledger.Tie as tie
 
-lends-enough-requires : tie.Need-lends-enough-requires
-lends-enough-requires c κs = search needs
-
-refused-requires : tie.Need-refused-requires
-refused-requires c κs = search needs
-
-same-length : tie.Need-same-length
-same-length c = search needs
-
-same-length-2 : tie.Need-same-length-2
-same-length-2 c = search needs
-
-same-length-3 : tie.Need-same-length-3
-same-length-3 c = search needs
-
-same-length-4 : tie.Need-same-length-4
-same-length-4 c = search needs
-
 returns : tie.Need-returns
 returns c =
     let told = c .before .before in
@@ -44,18 +26,6 @@ ledger-sheet-requires : tie.Need-ledger-sheet-requires
 ledger-sheet-requires c κs =
     let enough = c .before .before .before .before in
     lent 256256 _ _ _ _ _ (enough .before .lends-enough .ensures) (enough .if1 .left)
-
-same-length-5 : tie.Need-same-length-5
-same-length-5 c = search needs
-
-same-length-6 : tie.Need-same-length-6
-same-length-6 c = search needs
-
-same-length-7 : tie.Need-same-length-7
-same-length-7 c = search needs
-
-same-length-8 : tie.Need-same-length-8
-same-length-8 c = search needs
 
 returns-2 : tie.Need-returns-2
 returns-2 c =
@@ -79,16 +49,16 @@ pub ledger-spec : {M : Type 1} → statement M
 ledger-spec =
     tie.close
     (tie.spec
-    lends-enough-requires
-    refused-requires
-    same-length
-    same-length-2
-    same-length-3
-    same-length-4
+    (λ c κs. search needs)
+    (λ c κs. search needs)
+    (λ c. search needs)
+    (λ c. search needs)
+    (λ c. search needs)
+    (λ c. search needs)
     returns
     ledger-sheet-requires
-    same-length-5
-    same-length-6
-    same-length-7
-    same-length-8
+    (λ c. search needs)
+    (λ c. search needs)
+    (λ c. search needs)
+    (λ c. search needs)
     returns-2)

@@ -7,9 +7,6 @@ use Rattle.scoring.proofs.Ledgering.{requests-ready, sheet-ledgered}
 use Rattle.scoring.proofs.ledger_sheet.Statement.{statement}
 use Rattle.scoring.proofs.ledger_sheet.Tie as tie
 
-slice-relend-prefix-score-sheet : tie.Need-slice-relend-prefix-score-sheet
-slice-relend-prefix-score-sheet c = search needs
-
 slice-aggregate-score-sheet : tie.Need-slice-aggregate-score-sheet
 slice-aggregate-score-sheet c =
     let start = c .before .before .before .before .before .before .before .before .before in sym (length-take-le 256 (start .args .out .now) (omega (arith, start .pre .out-fits)))
@@ -25,20 +22,8 @@ score-sheet-requires c κs =
       out-fits = omega (arith, length-take-le 256 (start .args .out .now) (omega (arith, h .out-fits)));
     }
 
-cast-requests : tie.Need-cast-requests
-cast-requests c = search needs
-
-mul-words : tie.Need-mul-words
-mul-words c = search needs
-
-slice-reshare-prefix-put-requests : tie.Need-slice-reshare-prefix-put-requests
-slice-reshare-prefix-put-requests c = search needs
-
 slice-aggregate-put-requests : tie.Need-slice-aggregate-put-requests
 slice-aggregate-put-requests c = sym (length-take-le _ _ (omega arith))
-
-slice-reshare-prefix-put-requests-2 : tie.Need-slice-reshare-prefix-put-requests-2
-slice-reshare-prefix-put-requests-2 c = search needs
 
 slice-aggregate-put-requests-2 : tie.Need-slice-aggregate-put-requests-2
 slice-aggregate-put-requests-2 c = sym (length-take-le _ _ (omega arith))
@@ -60,18 +45,6 @@ put-requests-requires c κs =
     (back .out .given .0)
     (back .before .before .before .before .before .before .pages .given)
     (back .before .before .answers .given)
-
-same-length : tie.Need-same-length
-same-length c = search needs
-
-same-length-2 : tie.Need-same-length-2
-same-length-2 c = search needs
-
-same-length-3 : tie.Need-same-length-3
-same-length-3 c = search needs
-
-same-length-4 : tie.Need-same-length-4
-same-length-4 c = search needs
 
 returns : tie.Need-returns
 returns c =
@@ -95,18 +68,18 @@ pub ledger-sheet-spec : {M : Type 1} → statement M
 ledger-sheet-spec =
     tie.close
     (tie.spec
-    slice-relend-prefix-score-sheet
+    (λ c. search needs)
     slice-aggregate-score-sheet
     score-sheet-requires
-    cast-requests
-    mul-words
-    slice-reshare-prefix-put-requests
+    (λ c. search needs)
+    (λ c. search needs)
+    (λ c. search needs)
     slice-aggregate-put-requests
-    slice-reshare-prefix-put-requests-2
+    (λ c. search needs)
     slice-aggregate-put-requests-2
     put-requests-requires
-    same-length
-    same-length-2
-    same-length-3
-    same-length-4
+    (λ c. search needs)
+    (λ c. search needs)
+    (λ c. search needs)
+    (λ c. search needs)
     returns)

@@ -28,12 +28,6 @@ put-request-requires c κs =
       out-fits = omega (arith, h .out-fits, h .few, m .not-far, m .as-long);
     }
 
-add-i : tie.Need-add-i Inv-loop μ-loop
-add-i c = search needs
-
-loop-less : tie.Need-loop-less Inv-loop μ-loop
-loop-less c = search needs
-
 loop-again : tie.Need-loop-again Inv-loop μ-loop
 loop-again c =
     let put = c .before .before in
@@ -53,8 +47,8 @@ put-requests-spec =
     μ-loop
     loop-holds
     put-request-requires
-    add-i
-    loop-less
+    (λ c. search needs)
+    (λ c. search needs)
     loop-again
     same-length
     returns)

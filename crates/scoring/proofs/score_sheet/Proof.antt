@@ -5,21 +5,6 @@ use Rattle.scoring.proofs.Scoring.{refusal-scored, good-bid, sheet-scor
 use Rattle.scoring.proofs.score_sheet.Statement.{statement}
 use Rattle.scoring.proofs.score_sheet.Tie as tie
 
-read-requires : tie.Need-read-requires
-read-requires c κs = search needs
-
-write-refusal-requires : tie.Need-write-refusal-requires
-write-refusal-requires c κs = search needs
-
-refused-requires : tie.Need-refused-requires
-refused-requires c κs = search needs
-
-same-length : tie.Need-same-length
-same-length c = search needs
-
-same-length-2 : tie.Need-same-length-2
-same-length-2 c = search needs
-
 returns : tie.Need-returns
 returns c =
     let written = c .before .before .before in
@@ -60,18 +45,6 @@ score-bid-requires c κs =
     (c .before .before .before .before .if1 .left)
     (omega (arith, same))
 
-same-length-3 : tie.Need-same-length-3
-same-length-3 c = search needs
-
-same-length-4 : tie.Need-same-length-4
-same-length-4 c = search needs
-
-same-length-5 : tie.Need-same-length-5
-same-length-5 c = search needs
-
-same-length-6 : tie.Need-same-length-6
-same-length-6 c = search needs
-
 returns-2 : tie.Need-returns-2
 returns-2 c =
     let scored = c .before .before .before .before .before .before in
@@ -95,15 +68,15 @@ pub score-sheet-spec : {M : Type 1} → statement M
 score-sheet-spec =
     tie.close
     (tie.spec
-    read-requires
-    write-refusal-requires
-    refused-requires
-    same-length
-    same-length-2
+    (λ c κs. search needs)
+    (λ c κs. search needs)
+    (λ c κs. search needs)
+    (λ c. search needs)
+    (λ c. search needs)
     returns
     score-bid-requires
-    same-length-3
-    same-length-4
-    same-length-5
-    same-length-6
+    (λ c. search needs)
+    (λ c. search needs)
+    (λ c. search needs)
+    (λ c. search needs)
     returns-2)

@@ -2,10 +2,10 @@
 use native.Mathlib.Omega.{arith}
 use borrow.Author.Needs.{needs}
 use Rattle.streams.proofs.Reading.{came-fits}
-use Rattle.ledger.proofs.ledger_input.Statement.{statement}
-use Rattle.ledger.proofs.ledger_input.Tie as tie
+use Rattle.programs.proofs.answer.Statement.{statement}
+use Rattle.programs.proofs.answer.Tie as tie
 
-fits : tie.Need-part-ledger-end
+fits : tie.Need-part-scored-end
 fits c =
     let after-read = c .before .before .before .before .before .before in
     let at-entry = after-read .before .before .before .before .before .before .before in
@@ -13,8 +13,8 @@ fits c =
     (after-read .read-input .ensures) in
     omega (arith, came)
 
-pub ledger-input-spec : {M : Type 1} → statement M
-ledger-input-spec =
+pub answer-spec : {M : Type 1} → statement M
+answer-spec =
     tie.close
     (tie.spec
     (λ c κs. search needs)

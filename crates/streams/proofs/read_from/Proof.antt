@@ -8,14 +8,14 @@ use borrow.Author.Needs.{needs}
 use borrow.Author.Tests.{ltb-true}
 use Rattle.streams.specs.declared.Got.the-variants.{Bytes}
 use Rattle.streams.proofs.Reading.{SoFar, begun, read-as, one-more, none-more, found-end, filled, handed-nothing}
-use Rattle.streams.proofs.read_input.Statement.{statement}
-use Rattle.streams.proofs.read_input.Tie as tie
+use Rattle.streams.proofs.read_from.Statement.{statement}
+use Rattle.streams.proofs.read_from.Tie as tie
 
 abbrev Inv-loop : tie.InvT-loop
-Inv-loop buf₀ at₀ tries₀ buf at tries = SoFar buf₀ at buf
+Inv-loop fd what buf₀ at₀ tries₀ buf at tries = SoFar buf₀ at buf
 
 abbrev μ-loop : tie.MeasureT-loop
-μ-loop buf₀ at₀ tries₀ buf at tries = length buf - at + tries
+μ-loop fd what buf₀ at₀ tries₀ buf at tries = length buf - at + tries
 
 add-at : tie.Need-add-at Inv-loop μ-loop
 add-at c =
@@ -61,8 +61,8 @@ read-failed c =
     let in-loop = after-read .before .before .before .before in
     handed-nothing _ _ (c .failed .ensures) (after-read .read-once .ensures .as-long ∙ in-loop .loop .inv .as-long)
 
-pub read-input-spec : {M : Type 1} → statement M
-read-input-spec =
+pub read-from-spec : {M : Type 1} → statement M
+read-from-spec =
     tie.close
     (tie.spec
     Inv-loop
