@@ -1,4 +1,4 @@
--- The runs that document 01 shows, P1 to P12; traces that show the errors that look right, E1 to E41; and directories
+-- The runs that document 01 shows, P1 to P12; traces that show the errors that look right, E1 to E43; and directories
 -- that break one rule of soundness, U1 to U28, or stand at its limit, S1 to S7. See docs/FAULTS.md.
 use mathlib.Core.Path.{_≡_}
 use mathlib.Core.Bool.{Bool, true, false}
@@ -356,6 +356,26 @@ looksRight =
     ∷ t2 (3 ∷ 0 ∷ 4 ∷ 0 ∷ 1 ∷ 0 ∷ [])
     ∷ b1 (5 ∷ 0 ∷ 6 ∷ 0 ∷ 7 ∷ 0 ∷ [])
     ∷ b2 (2 ∷ 0 ∷ [])
+    ∷ [])
+    -- E42 T2 counted twice in the test of "raise q"
+    ∷ case cart 3 (1 ∷ 2 ∷ 2 ∷ 1 ∷ 3 ∷ 4 ∷ 5 ∷ 1 ∷ 4 ∷ []) (
+    answered 3 5 1 2
+    ∷ p 1
+    ∷ q 2
+    ∷ t1 (1 ∷ 2 ∷ 4 ∷ 2 ∷ [])
+    ∷ t2 (2 ∷ 2 ∷ [])
+    ∷ b1 (3 ∷ 0 ∷ 5 ∷ 0 ∷ [])
+    ∷ b2 []
+    ∷ [])
+    -- E43 B2 counted twice in the test of "raise q"
+    ∷ case cart 3 (1 ∷ 2 ∷ 3 ∷ 4 ∷ 1 ∷ 2 ∷ 5 ∷ 6 ∷ 2 ∷ 1 ∷ []) (
+    answered 4 5 1 2
+    ∷ p 1
+    ∷ q 2
+    ∷ t1 (6 ∷ 0 ∷ 2 ∷ 2 ∷ 1 ∷ 2 ∷ [])
+    ∷ t2 []
+    ∷ b1 (3 ∷ 0 ∷ 4 ∷ 0 ∷ 5 ∷ 0 ∷ [])
+    ∷ b2 []
     ∷ [])
     ∷ []
 
