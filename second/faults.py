@@ -2,7 +2,7 @@
 """Plants one-line faults in copies of the second program, one after another, and compares the clean program with each.
 
 For each fault: copy, replace (the old text must stand exactly once), build, run
-`second compare --seed 1 --size full -- FAULTY`, record which groups found it and after how many cases.
+`second compare --seed 1 --size small -- FAULTY`, record which groups found it and after how many cases.
 The table goes to target/faults/faults.md, the whole outputs to target/faults/logs/. Build the clean program first:
 `cargo build --release --target-dir ../target/second`. Arguments: numbers of faults, to run only those
 (the others keep what results.json holds); 0 writes only the table again."""
@@ -77,7 +77,7 @@ def compared(number):
     clean = os.path.join(os.path.dirname(HERE), "second/release/second")
     faulty = os.path.join(COPY, "target/release/second")
     begun = time.time()
-    done = run(["nice", clean, "compare", "--seed", "1", "--size", "full", "--", faulty])
+    done = run(["nice", clean, "compare", "--seed", "1", "--size", "small", "--", faulty])
     with open(os.path.join(HERE, "logs", f"{number:02}.txt"), "w") as log:
         log.write(done.stdout)
     found = re.findall(r"^first difference of group (\w+) after (\d+) cases", done.stdout, re.M)
@@ -94,7 +94,7 @@ def code(text):
 
 def table(results):
     rows = ["# Planted faults", "",
-            "Each row: one fault in a copy of `second/`, built, and `second compare --seed 1 --size full -- FAULTY` run by the clean",
+            "Each row: one fault in a copy of `second/`, built, and `second compare --seed 1 --size small -- FAULTY` run by the clean",
             "program (`second/faults.py`). \"Found by\" gives every group with a difference and after how many of its cases the first one came.",
             "The last column counts as different also all later cases of a probe process in which the faulty copy ended early (a panic).",
             "The whole outputs, with the first difference of each group, go to `target/faults/logs/`.", "",
