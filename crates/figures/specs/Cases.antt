@@ -1,4 +1,4 @@
--- The runs that document 01 shows, P1 to P12; traces that show the errors that look right, E1 to E43; and directories
+-- The runs that document 01 shows, P1 to P12; traces that show the errors that look right, E1 to E45; and directories
 -- that break one rule of soundness, U1 to U28, or stand at its limit, S1 to S7. See docs/FAULTS.md.
 use mathlib.Core.Path.{_≡_}
 use mathlib.Core.Bool.{Bool, true, false}
@@ -20,6 +20,8 @@ pub data Shown : Type 0 where
   answered : ℕ → ℕ → ℕ → ℕ → Shown
   -- the reference bits that the last request cleared
   cleared : ℕ → Shown
+  -- the tally of all requests: how many, hits, misses, evictions, hand moves
+  tallied : ℕ → ℕ → ℕ → ℕ → ℕ → Shown
   -- the target p in whole pages, and q
   p q : ℕ → Shown
   t1 t2 b1 b2 : List ℕ → Shown
@@ -40,6 +42,11 @@ abbrev pub shown : Ran → Served → Shown → Bool
 shown r s (answered kind page list moves) =
     same (drop (∣ r .answers ∣ - 4) (r .answers)) (kind ∷ page ∷ list ∷ moves ∷ [])
 shown r s (cleared n) = eqb (s .cleared) n
+shown r s (tallied requests hits misses evictions moves) =
+    let t = r .tally in
+    same
+    (t .requests ∷ t .hits ∷ t .misses ∷ t .evictions ∷ t .moves ∷ [])
+    (requests ∷ hits ∷ misses ∷ evictions ∷ moves ∷ [])
 shown r s (p n) = eqb (r .dir .p) (unit * n)
 shown r s (q n) = eqb (r .dir .q) n
 shown r s (t1 w) = same (words (r .dir .t1)) w
@@ -377,6 +384,10 @@ looksRight =
     ∷ b1 (3 ∷ 0 ∷ 4 ∷ 0 ∷ 5 ∷ 0 ∷ [])
     ∷ b2 []
     ∷ [])
+    -- E44 the tally of the run to reproduce, with hits for misses, or a miss with room as an eviction
+    ∷ case car 2 (first 8) (tallied 8 2 6 4 6 ∷ [])
+    -- E45 the same in CART, with misses for moves, or the last request's moves for their sum
+    ∷ case cart 2 (first 8) (tallied 8 2 6 4 9 ∷ [])
     ∷ []
 
 -- "P1 to P12 are proved about the definitions together, as one statement over a list."

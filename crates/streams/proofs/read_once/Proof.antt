@@ -10,7 +10,8 @@ use Rattle.streams.proofs.read_once.Tie as tie
 
 told-requires : tie.Need-told-requires
 told-requires c κs =
-    let read = c .before .before .before .read in moved (read .result) _ _ (record { sfits = read .ok }) (sym (read .kept .1 .0)) (read .ensures)
+    let read = c .before .before .before .read in
+    moved (read .result) _ _ (record { sfits = read .ok }) (sym (read .kept .1 .0)) (read .ensures)
 
 returns : tie.Need-returns
 returns c =
@@ -18,8 +19,8 @@ returns c =
     let after-read = after-told .before .before .before .before in
     let at-entry = after-read .before .before .before .before in
     let read = after-read .read in
-    let answer = told (toZ w64 (ofZ w64 (read .result))) _ (after-told .told .result) (told-requires (after-told .before) (after-told .told .lifetimes))
-    (after-told .told .ensures) in
+    let asked = told-requires (after-told .before) (after-told .told .lifetimes) in
+    let answer = told (toZ w64 (ofZ w64 (read .result))) _ (after-told .told .result) asked (after-told .told .ensures) in
     read-at (at-entry .args .buf .now) (read .last .1 .0) (at-entry .args .at) (after-told .told .result) (at-entry .pre)
     (read .kept .1 .0) (answer .some) (answer .few)
 
