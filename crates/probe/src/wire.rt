@@ -150,12 +150,12 @@ pub fn read_bytes(bytes: &mut [u8], raw: &mut [u8]) -> Buffer
     ensures { λ r. ⌜ r .count ≤ length (now (bytes .exit)) ⌝ }
 {
     let read = read_raw(bytes.len(), raw);
-    let count = read.count;
-    let all_bytes = unpack_bytes(raw, &mut bytes[0..count]);
-    Buffer {
-        readable: read.readable && all_bytes,
-        count,
+    if !read.readable {
+        return read;
     }
+    let count = read.count;
+    let readable = unpack_bytes(raw, &mut bytes[0..count]);
+    Buffer { readable, count }
 }
 
 // As many words as there are places for, with no length before them.
