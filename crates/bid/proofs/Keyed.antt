@@ -10,8 +10,8 @@ use lib.ListN.{take, drop, length-drop}
 use lib.Seq.{take-nil, length-take-le, drop-drop}
 use borrow.Author.Tests.{ltb-true, ltb-false}
 use lib.Dec.{ltb}
-use Rattle.figures.specs.Choice.{if_then_else_, ∣_∣}
-use Rattle.figures.specs.Refusals.{noSuchLine}
+use Rattle.terms.specs.Choice.{if_then_else_, ∣_∣}
+use Rattle.terms.specs.Refusals.{noSuchLine}
 use Rattle.sheets.specs.Text.{starts}
 use Rattle.sheets.specs.Number.{Value}
 use Rattle.sheets.specs.Lines.{lines, Reading, bad, before, under}

@@ -8,7 +8,7 @@ use lib.ListN.{getD, drop, set, length-append, drop-of-length-le}
 use lib.Seq.{set-at}
 use types.Run.{OneOf, miss}
 use denote.Enum.Declared.{tagOf}
-use Rattle.figures.specs.Choice.{∣_∣}
+use Rattle.terms.specs.Choice.{∣_∣}
 use Rattle.sheets.specs.Lines.{Lines, lines, good, bad}
 use Rattle.sheets.specs.Bid.{Pages, listed, refusedAt, numberOfLine, onto, pageLine, pagesFrom}
 use Rattle.sheets.specs.Refusals.{over}

@@ -7,8 +7,8 @@ use Prim.Native.Nat.{ℕ, _≤_, _<_}
 use native.Mathlib.Omega.{arith}
 use lib.ListN.{drop}
 use borrow.Author.Tests.{lt-ltb, le-ltb}
-use Rattle.figures.specs.Choice.{if_then_else_, ∣_∣}
-use Rattle.figures.specs.Refusals.{bufferTooShort, sheetTooLong}
+use Rattle.terms.specs.Choice.{if_then_else_, ∣_∣}
+use Rattle.terms.specs.Refusals.{bufferTooShort, sheetTooLong}
 use Rattle.sheets.specs.Lines as Lines
 use Rattle.sheets.specs.Lines.{Lines, lines}
 use Rattle.sheets.specs.Bid.{Meaning, refused, Pages, listed, refusedAt, policyLine, sizeLine, costLine}

@@ -4,8 +4,8 @@ use mathlib.Core.Path.{_≡_}
 use mathlib.Core.List.{List}
 use Prim.Native.Nat.{ℕ, _+_, _-_, _≤_, _<_}
 use lib.ListN.{take, drop}
-use Rattle.figures.specs.Choice.{∣_∣}
-use Rattle.figures.specs.Refusals.{accepted, policyNotKnown, sizeNotKnown, tooManyPages, noSuchLine, notInForm}
+use Rattle.terms.specs.Choice.{∣_∣}
+use Rattle.terms.specs.Refusals.{accepted, policyNotKnown, sizeNotKnown, tooManyPages, noSuchLine, notInForm}
 use Rattle.sheets.specs.Number.{Value}
 use Rattle.sheets.specs.Lines as Lines
 use Rattle.sheets.specs.Lines.{lines, good, bad, before, under}

@@ -5,6 +5,9 @@ ghost use lib.ListN.{drop};
 ghost use Rattle.sheets.specs.Lines.{lines};
 ghost use Rattle.sheets.specs.Bid.{policyValue, policyLine, sizeLine, costLine, pageLine};
 ghost use Rattle.bid.specs.Answers.{KeyedAt, policyCase, Reads, numberOf};
+use terms::limits;
+use terms::policies;
+use terms::refusals;
 
 // A closed line under its key: where its value starts and ends.
 pub enum Keyed {
@@ -33,12 +36,12 @@ pub fn number_of(reading: Reading) -> u32
     ensures { λ r. ⌜ r ≡ numberOf reading ⌝ }
 {
     match reading {
-        Reading::Good(_, _) => 0,
-        Reading::NoSuchLine => 8,
-        Reading::TooManyPages => 5,
-        Reading::PolicyNotKnown => 1,
-        Reading::SizeNotKnown => 2,
-        Reading::NotInForm => 9,
+        Reading::Good(_, _) => refusals::ACCEPTED,
+        Reading::NoSuchLine => refusals::NO_SUCH_LINE,
+        Reading::TooManyPages => refusals::TOO_MANY_PAGES,
+        Reading::PolicyNotKnown => refusals::POLICY_NOT_KNOWN,
+        Reading::SizeNotKnown => refusals::SIZE_NOT_KNOWN,
+        Reading::NotInForm => refusals::NOT_IN_FORM,
     }
 }
 
@@ -63,10 +66,10 @@ fn policy_value(text: &[u8]) -> PolicyValue
         return PolicyValue::Blank;
     }
     if text::equal(text, b"car") {
-        return PolicyValue::Named(1);
+        return PolicyValue::Named(policies::CAR);
     }
     if text::equal(text, b"cart") {
-        return PolicyValue::Named(2);
+        return PolicyValue::Named(policies::CART);
     }
     PolicyValue::Unknown
 }
@@ -81,7 +84,7 @@ pub fn policy_line(sheet: &[u8], at: usize) -> Reading
     let policy = policy_value(&sheet[start..end]);
     match policy {
         PolicyValue::Named(policy) => Reading::Good(policy, end + 1),
-        PolicyValue::Blank => Reading::Good(1, end + 1),
+        PolicyValue::Blank => Reading::Good(policies::CAR, end + 1),
         PolicyValue::Unknown => Reading::PolicyNotKnown,
     }
 }
@@ -95,7 +98,7 @@ pub fn size_line(sheet: &[u8], at: usize) -> Reading
     let numbers::Number::Means(c) = numbers::whole(&sheet[start..end]) else {
         return Reading::NotInForm;
     };
-    if c < 1 || 1024 < c {
+    if !limits::known_size(c) {
         return Reading::SizeNotKnown;
     }
     Reading::Good(c, end + 1)
@@ -120,7 +123,7 @@ pub fn page_line(sheet: &[u8], at: usize, before: u32) -> Reading
     let Keyed::Value(start, end) = under_key(sheet, at, b"page=") else {
         return Reading::NoSuchLine;
     };
-    if 1000 <= before {
+    if limits::MOST_PAGES <= before as usize {
         return Reading::TooManyPages;
     }
     let numbers::Number::Means(page) = numbers::whole(&sheet[start..end]) else {

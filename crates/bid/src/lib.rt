@@ -12,6 +12,8 @@ ghost use Rattle.bid.specs.Promises.{refusedBid, Answers, BidRead};
 mod keyed_lines;
 
 use keyed_lines::Reading;
+use terms::limits;
+use terms::refusals;
 
 // The reader's answer; zeros beside the number and line of a refusal.
 pub struct Bid {
@@ -100,7 +102,7 @@ fn read_lines(sheet: &[u8], pages: &mut [u32]) -> Bid
         Listed::Pages(count) => {
             fill(sheet, fourth, pages);
             Bid {
-                number: 0,
+                number: refusals::ACCEPTED,
                 line: 0,
                 policy,
                 c,
@@ -115,11 +117,11 @@ fn read_lines(sheet: &[u8], pages: &mut [u32]) -> Bid
 pub fn read(sheet: &[u8], pages: &mut [u32]) -> Bid
     ensures { λ r. ⌜ BidRead (now (sheet .entry)) (now (pages .entry)) r (now (pages .exit)) ⌝ }
 {
-    if pages.len() < 1000 {
-        return refused(6, 0);
+    if pages.len() < limits::MOST_PAGES {
+        return refused(refusals::BUFFER_TOO_SHORT, 0);
     }
-    if 16000 < sheet.len() {
-        return refused(7, 0);
+    if limits::MOST_SHEET_BYTES < sheet.len() {
+        return refused(refusals::SHEET_TOO_LONG, 0);
     }
     read_lines(sheet, pages)
 }

@@ -6,7 +6,7 @@ use mathlib.Core.List.{List, _∷_}
 use Prim.Native.Nat.{ℕ, zero, suc, _+_, _-_, _%_, _≤_, _<_}
 use native.Mathlib.Omega.{arith}
 use lib.ListN.{getD}
-use Rattle.figures.specs.Choice.{if_then_else_}
+use Rattle.terms.specs.Choice.{if_then_else_}
 use Rattle.figures.specs.Entry.{Entry, cleared, bits}
 use Rattle.figures.specs.Directory.{Directory, T1, T2, B1, B2, listOf, inCache, t1AtTarget}
 use Rattle.figures.specs.Words.{encode, decode}

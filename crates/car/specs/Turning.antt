@@ -8,7 +8,8 @@ use lib.ListN.{getD}
 use Rattle.figures.specs.Entry.{bits}
 use Rattle.figures.specs.Directory.{unit, inCache}
 use Rattle.figures.specs.Words.{encode, decode, size, nT1, nT2, nB1, nB2}
-use Rattle.figures.specs.Sound.{car, sound}
+use Rattle.terms.specs.Policies.{car}
+use Rattle.figures.specs.Sound.{sound}
 use Rattle.figures.specs.Hand.{Hand, Ends}
 use Rattle.figures.specs.Car.{choose}
 use Rattle.figures.specs.Request.{carPolicy, missed}

@@ -3,7 +3,7 @@
 ghost use mathlib.Core.Path.{_≡_};
 ghost use Prim.Native.Nat.{_≤_};
 ghost use lib.ListN.{length};
-ghost use Rattle.figures.specs.Choice.{if_then_else_};
+ghost use Rattle.terms.specs.Choice.{if_then_else_};
 ghost use Rattle.figures.specs.Directory.{t1AtTarget};
 ghost use Rattle.figures.specs.Words.{decode, nB1, nB2};
 ghost use Rattle.figures.specs.Car as Car;

@@ -8,7 +8,7 @@ use lib.ListN.{length-append}
 use Rattle.figures.specs.Entry.{bits, long, total}
 use Rattle.figures.specs.Directory.{inCache}
 use Rattle.figures.specs.Words.{nT1, nT2, decode}
-use Rattle.figures.specs.Sound.{cart}
+use Rattle.terms.specs.Policies.{cart}
 use Rattle.figures.specs.Hand.{Hand, Look, Ends}
 use Rattle.figures.specs.Cart.{cost, firstLook, secondLook, firstPass, secondPass, counted}
 use Rattle.laws.proofs.Lists.{total-append, total-at-most, bits-at-most-one, short-and-long}

@@ -7,7 +7,7 @@ use native.Mathlib.Omega.{arith}
 use lib.ListN.{getD, set}
 use lib.Dec.{leb}
 use borrow.Author.Tests.{le-leb, lt-leb}
-use Rattle.figures.specs.Choice.{∣_∣}
+use Rattle.terms.specs.Choice.{∣_∣}
 use Rattle.figures.specs.Entry.{Entry}
 use Rattle.figures.specs.Directory.{Directory, unit, listOf}
 use Rattle.figures.specs.Words.{size, nT1, nT2, nB1, nB2, encode}

@@ -6,7 +6,7 @@ use mathlib.Core.List.{List, [], _∷_, _++_}
 use Prim.Native.Nat.{ℕ, _+_, _-_, _*_, _%_, _≤_, min}
 use native.Mathlib.Omega.{arith}
 use lib.Dec.{leb}
-use Rattle.figures.specs.Choice.{∣_∣}
+use Rattle.terms.specs.Choice.{∣_∣}
 use Rattle.figures.specs.Entry.{Entry, Filter, S, L, cleared, madeLong}
 use Rattle.figures.specs.Directory.{Directory, unit, Name, T1, T2, withList, toTail}
 use Rattle.figures.specs.Words.{flags, encode, decode}

@@ -8,12 +8,12 @@ use native.Mathlib.Omega.{arith}
 use lib.ListN.{getD}
 use lib.Dec.{eqb, ltb}
 use borrow.Author.Tests.{ltb-true, eqb-true, eqb-false, eq-eqb, ne-eqb, lt-ltb, le-ltb}
-use Rattle.figures.specs.Choice.{if_then_else_, ∣_∣}
+use Rattle.terms.specs.Choice.{if_then_else_, ∣_∣}
+use Rattle.terms.proofs.Choice.{by-tests}
 use Rattle.figures.specs.Entry.{Entry, dropHead}
 use Rattle.figures.specs.Directory.{Directory, B1, B2, listOf, withList, cached, remembered}
 use Rattle.figures.specs.Words.{encode, nB1, nB2}
 use Rattle.figures.specs.Cart.{trim}
-use Rattle.laws.proofs.Lists.{by-tests}
 use Rattle.laws.proofs.Cart.{cart-trims}
 use Rattle.entries.specs.Stretches.{nameOf}
 use Rattle.entries.proofs.Rooms.{Fits}

@@ -6,11 +6,12 @@ use mathlib.Core.List.{List, [], _∷_}
 use Prim.Native.Nat.{ℕ, _+_, _-_, _*_, _/_, _≤_, min, max}
 use lib.ListN.{getD}
 use lib.Dec.{ltb, eqb}
-use Rattle.figures.specs.Choice.{if_then_else_}
+use Rattle.terms.specs.Choice.{if_then_else_}
+use Rattle.terms.specs.Policies.{cart}
 use Rattle.figures.specs.Entry.{Entry, bits, short, long, total}
 use Rattle.figures.specs.Directory.{unit, inCache}
 use Rattle.figures.specs.Words.{flags, encode, decode, size, nT1, nT2, nB1, nB2}
-use Rattle.figures.specs.Sound.{cart, sound}
+use Rattle.figures.specs.Sound.{sound}
 use Rattle.figures.specs.Hand.{Hand, Look, again, Ends}
 use Rattle.figures.specs.Cart.{cost, demotion}
 use Rattle.figures.specs.Request.{cartPolicy, missed}

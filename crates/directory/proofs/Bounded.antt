@@ -3,10 +3,10 @@
 use mathlib.Core.List.{List}
 use Prim.Native.Nat.{ℕ, _+_, _*_, _≤_}
 use native.Mathlib.Omega.{arith}
-use Rattle.figures.specs.Choice.{∣_∣}
+use Rattle.terms.specs.Choice.{∣_∣}
+use Rattle.terms.specs.Policies.{car, cart}
 use Rattle.figures.specs.Directory.{Directory, fresh}
 use Rattle.figures.specs.Words.{encode}
-use Rattle.figures.specs.Sound.{car, cart}
 use Rattle.figures.specs.Demands.{movesEach, owed}
 use Rattle.laws.proofs.Encoding.{decode-encode}
 use Rattle.directory.specs.declared.Ran.{Ran}

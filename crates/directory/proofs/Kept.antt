@@ -6,7 +6,8 @@ use mathlib.Core.List.{List, [], _∷_, _++_}
 use Prim.Native.Nat.{ℕ}
 use lib.Dec.{eqb}
 use borrow.Author.Tests.{eqb-true}
-use Rattle.figures.specs.Choice.{if_then_else_}
+use Rattle.terms.specs.Choice.{if_then_else_}
+use Rattle.terms.proofs.Choice.{by-test}
 use Rattle.figures.specs.Directory.{Directory}
 use Rattle.figures.specs.Words.{encode, decode}
 use Rattle.figures.specs.Sound.{sound}
@@ -14,7 +15,6 @@ use Rattle.figures.specs.Request.{request}
 use Rattle.figures.specs.Run.{zeroTally}
 use Rattle.figures.specs.Refusals.{checkNumber, onCheck, Answered, onRequest, runNumber, Replayed, onRun}
 use Rattle.figures.specs.Demands.{Sound}
-use Rattle.laws.proofs.Lists.{by-test}
 use Rattle.laws.proofs.Encoding.{decode-encode}
 use Rattle.laws.proofs.Requests.{after, run-after, after-append}
 use Rattle.laws.proofs.Kept.{request-keeps, run-keeps}

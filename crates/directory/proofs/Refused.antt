@@ -7,10 +7,12 @@ use Prim.Native.Nat.{ℕ, _+_, _-_, _*_, _≤_, _<_}
 use native.Mathlib.Omega.{arith}
 use lib.ListN.{getD, set, replicate, replicate-append-replicate}
 use borrow.Author.Tests.{lt-ltb, le-ltb, eq-eqb, ne-eqb}
-use Rattle.figures.specs.Choice.{∣_∣}
+use Rattle.terms.specs.Choice.{∣_∣}
+use Rattle.terms.specs.Limits.{knownSize}
+use Rattle.terms.specs.Policies.{knownPolicy}
 use Rattle.figures.specs.Directory.{fresh}
 use Rattle.figures.specs.Words.{encode, size}
-use Rattle.figures.specs.Sound.{knownPolicy, knownSize, sound}
+use Rattle.figures.specs.Sound.{sound}
 use Rattle.figures.specs.Refusals.{freshNumber, checkNumber, onFresh, onCheck}
 use Rattle.directory.specs.Promises.{Freshened, Checked}
 

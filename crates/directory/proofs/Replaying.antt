@@ -8,14 +8,14 @@ use native.Mathlib.Omega.{arith}
 use lib.ListN.{getD, set, take, drop, length-append, drop-of-length-le}
 use lib.Seq.{drop-cons, drop-drop, drop-append-add, take-at, sets-eq}
 use lib.Dec.{eqb}
-use Rattle.figures.specs.Choice.{∣_∣}
+use Rattle.terms.specs.Choice.{∣_∣}
+use Rattle.terms.specs.Policies.{car}
+use Rattle.terms.proofs.Choice.{either}
 use Rattle.figures.specs.Words.{encode, decode}
-use Rattle.figures.specs.Sound.{car}
 use Rattle.figures.specs.Request.{Served, answer, request}
 use Rattle.figures.specs.Run as Run
 use Rattle.figures.specs.Run.{Ran, zeroTally, before, runFrom, run}
 use Rattle.figures.specs.Demands.{mostMoves}
-use Rattle.laws.proofs.Lists.{either}
 use Rattle.laws.proofs.Encoding.{decode-encode}
 use Rattle.laws.proofs.Moves.{request-moves-at-most}
 use Rattle.entries.proofs.Laid.{header}

@@ -8,9 +8,11 @@ use native.Mathlib.Omega.{arith}
 use lib.ListN.{getD}
 use lib.Dec.{ltb}
 use borrow.Author.Tests.{eq-eqb, ne-eqb}
-use Rattle.figures.specs.Choice.{if_then_else_, ∣_∣}
+use Rattle.terms.specs.Choice.{if_then_else_, ∣_∣}
+use Rattle.terms.specs.Limits.{knownSize}
+use Rattle.terms.specs.Policies.{knownPolicy}
 use Rattle.figures.specs.Words.{decode, size}
-use Rattle.figures.specs.Sound.{knownPolicy, knownSize, exactLength, sound}
+use Rattle.figures.specs.Sound.{exactLength, sound}
 use Rattle.figures.specs.Request.{request}
 use Rattle.figures.specs.Refusals.{checkNumber, onCheck, onRequest, Answered, refusedRequest, servedRequest}
 use Rattle.laws.proofs.Moves.{request-moves-at-most}

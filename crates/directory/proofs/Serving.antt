@@ -8,14 +8,15 @@ use native.Mathlib.Omega.{arith}
 use lib.ListN.{getD, length-append}
 use lib.Dec.{eqb}
 use borrow.Author.Tests.{eqb-true, eq-eqb, ne-eqb}
-use Rattle.figures.specs.Choice.{if_then_else_, ∣_∣}
+use Rattle.terms.specs.Choice.{if_then_else_, ∣_∣}
+use Rattle.terms.specs.Policies.{car, cart}
+use Rattle.terms.proofs.Choice.{either}
 use Rattle.figures.specs.Entry.{has}
 use Rattle.figures.specs.Directory.{Directory, placeNew, cached}
 use Rattle.figures.specs.Words.{encode, decode, size, nT1, nT2}
-use Rattle.figures.specs.Sound.{sound, car, cart}
+use Rattle.figures.specs.Sound.{sound}
 use Rattle.figures.specs.Request.{Policy, carPolicy, cartPolicy, policyOf, Served, still, hit, missed, request}
 use Rattle.figures.specs.Demands.{Sound}
-use Rattle.laws.proofs.Lists.{either}
 use Rattle.laws.proofs.Encoding.{encode-decode, words-fit}
 use Rattle.laws.proofs.Soundness.{facts-of-words}
 use Rattle.laws.proofs.Requests.{serve-hit, serve-room, serve-full}

@@ -3,7 +3,7 @@
 use mathlib.Core.Path.{_≡_}
 use mathlib.Core.List.{List}
 use Prim.Native.Nat.{ℕ, _+_, _*_, _≤_}
-use Rattle.figures.specs.Choice.{∣_∣}
+use Rattle.terms.specs.Choice.{∣_∣}
 use Rattle.figures.specs.Words.{decode}
 use Rattle.figures.specs.Refusals.{onFresh, onCheck, onRequest, onRun}
 use Rattle.figures.specs.Demands.{mostMoves, movesEach, owed}

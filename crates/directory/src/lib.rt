@@ -5,7 +5,6 @@ ghost use Prim.Native.Nat.{_+_, _*_, _≤_};
 ghost use mathlib.Core.List.{_∷_, _++_};
 ghost use lib.ListN.{length, take, drop, replicate};
 ghost use Rattle.figures.specs.Words.{decode};
-ghost use Rattle.figures.specs.Sound.{knownPolicy, knownSize};
 ghost use Rattle.figures.specs.Request.{request};
 ghost use Rattle.figures.specs.Run.{zeroTally};
 ghost use Rattle.entries.specs.Answers.{Tells};
@@ -14,6 +13,9 @@ ghost use Rattle.directory.specs.Promises.{Freshened, Checked, Requested
 ghost use Rattle.directory.specs.Ready.{Ready, Stepped, RunThrough};
 use entries::lists;
 use entries::search;
+use terms::limits;
+use terms::policies;
+use terms::refusals;
 
 // A request's answer; zeros beside the number of a refusal.
 pub struct Answer {
@@ -22,18 +24,6 @@ pub struct Answer {
     pub page: u32,
     pub list: u32,
     pub moves: u32,
-}
-
-fn known_policy(policy: u32) -> bool
-    ensures { λ r. ⌜ r ≡ knownPolicy policy ⌝ }
-{
-    policy == 1 || policy == 2
-}
-
-fn known_size(c: u32) -> bool
-    ensures { λ r. ⌜ r ≡ knownSize c ⌝ }
-{
-    1 <= c && c <= 1024
 }
 
 fn clear(s: &mut [u32])
@@ -50,19 +40,19 @@ fn clear(s: &mut [u32])
 pub fn fresh(policy: u32, c: u32, dir: &mut [u32]) -> u32
     ensures { λ r. ⌜ Freshened policy c (now (dir .entry)) r (now (dir .exit)) ⌝ }
 {
-    if !known_policy(policy) {
-        return 1;
+    if !policies::known_policy(policy) {
+        return refusals::POLICY_NOT_KNOWN;
     }
-    if !known_size(c) {
-        return 2;
+    if !limits::known_size(c) {
+        return refusals::SIZE_NOT_KNOWN;
     }
     if dir.len() != 8 + 4 * lists::wide(c) {
-        return 3;
+        return refusals::WRONG_LENGTH;
     }
     clear(dir);
     dir[0] = policy;
     dir[1] = c;
-    0
+    refusals::ACCEPTED
 }
 
 // The soundness check: under 8 words 3, then 1, 2, length 3, then 4.
@@ -70,21 +60,21 @@ pub fn check(dir: &[u32]) -> u32
     ensures { λ r. ⌜ Checked (now (dir .entry)) r ⌝ }
 {
     if dir.len() < 8 {
-        return 3;
+        return refusals::WRONG_LENGTH;
     }
-    if !known_policy(dir[0]) {
-        return 1;
+    if !policies::known_policy(dir[0]) {
+        return refusals::POLICY_NOT_KNOWN;
     }
-    if !known_size(dir[1]) {
-        return 2;
+    if !limits::known_size(dir[1]) {
+        return refusals::SIZE_NOT_KNOWN;
     }
     if dir.len() != 8 + 4 * lists::wide(dir[1]) {
-        return 3;
+        return refusals::WRONG_LENGTH;
     }
     if !soundness::is_sound(dir) {
-        return 4;
+        return refusals::NOT_SOUND;
     }
-    0
+    refusals::ACCEPTED
 }
 
 // One request of a sound directory, which it leaves sound: the step under requests and runs.
@@ -113,7 +103,7 @@ fn serve(dir: &mut [u32], page: u32) -> entries::Served
             moves: 0,
         };
     }
-    if dir[0] == 1 {
+    if dir[0] == policies::CAR {
         car::miss(dir, page)
     } else {
         cart::miss(dir, page)
@@ -125,7 +115,7 @@ pub fn request(dir: &mut [u32], page: u32) -> Answer
     ensures { λ r. ⌜ Requested (now (dir .entry)) page r (now (dir .exit)) ⌝ }
 {
     let number = check(dir);
-    if number != 0 {
+    if number != refusals::ACCEPTED {
         return Answer {
             number,
             kind: 0,
@@ -136,7 +126,7 @@ pub fn request(dir: &mut [u32], page: u32) -> Answer
     }
     let served = serve(dir, page);
     Answer {
-        number: 0,
+        number: refusals::ACCEPTED,
         kind: served.kind,
         page: served.page,
         list: served.list,
@@ -204,26 +194,26 @@ pub fn run(dir: &mut [u32], trace: &[u32], answers: &mut [u32]) -> Ran
     ensures { λ r. ⌜ Replayed (now (dir .entry)) (now (trace .entry)) (now (answers .entry)) r (now (dir .exit)) (now (answers .exit)) ⌝ }
 {
     let number = check(dir);
-    if number != 0 {
+    if number != refusals::ACCEPTED {
         return Ran {
             number,
             tally: no_tally(),
         };
     }
-    if 1000 < trace.len() {
+    if limits::MOST_PAGES < trace.len() {
         return Ran {
-            number: 5,
+            number: refusals::TOO_MANY_PAGES,
             tally: no_tally(),
         };
     }
     if answers.len() < 4 * trace.len() {
         return Ran {
-            number: 6,
+            number: refusals::BUFFER_TOO_SHORT,
             tally: no_tally(),
         };
     }
     Ran {
-        number: 0,
+        number: refusals::ACCEPTED,
         tally: replay(dir, trace, answers),
     }
 }

@@ -9,7 +9,8 @@ use native.Mathlib.Omega.{arith}
 use lib.ListN.{length, take, drop, getD, length-drop}
 use lib.Seq.{drop-cons, drop-length, getD-take, getD-drop, length-take-le}
 use borrow.Author.Tests.{le-leb, lt-leb}
-use Rattle.figures.specs.Sound.{allAtMost, flagWords}
+use Rattle.terms.specs.Choice.{allAtMost}
+use Rattle.figures.specs.Sound.{flagWords}
 
 module _ (m : ℕ) (w : List ℕ) (i : ℕ) (h : i < length w) where
   pub at-most-not : m < getD w i 0 → allAtMost m (drop i w) ≡ false

@@ -8,7 +8,7 @@ use native.Mathlib.Nat.{add-zero}
 use native.Mathlib.Omega.{arith}
 use lib.ListN.{length, getD, set, take, drop, length-append, length-drop, take-append-drop}
 use lib.Seq.{length-take-le, set-set, set-comm, set-getD}
-use Rattle.figures.specs.Choice.{if_then_else_, ∣_∣}
+use Rattle.terms.specs.Choice.{if_then_else_, ∣_∣}
 use Rattle.figures.specs.Entry.{Entry, newShort, cleared, marked, has, mark, without, dropHead}
 use Rattle.figures.specs.Directory.{Directory, T1, T2, listOf, withList, toTail, placeNew, cached, remembered, listed}
 use Rattle.figures.specs.Request.{hit}

@@ -6,7 +6,7 @@ use mathlib.Core.List.{List}
 use Prim.Native.Nat.{ℕ, zero, suc, _+_, _*_, _/_, _%_, _≤_}
 use native.Mathlib.Omega.{arith}
 use lib.ListN.{drop, getD}
-use Rattle.figures.specs.Choice.{if_then_else_}
+use Rattle.terms.specs.Choice.{if_then_else_}
 use Rattle.figures.specs.Entry.{Entry, Filter, S, L, longOf, total}
 use Rattle.figures.specs.Words.{flags}
 use Rattle.entries.specs.Stretches.{ofFlag}

@@ -7,7 +7,7 @@ use Prim.Native.Nat.{ℕ, zero, suc, _+_, _-_, _*_, _%_, _≤_}
 use native.Mathlib.Omega.{arith}
 use lib.ListN.{getD, set, take, drop, replicate, length-append, take-append-drop, List·getD-append}
 use lib.Seq.{take-at, drop-at, getD-set-other}
-use Rattle.figures.specs.Choice.{if_then_else_, ∣_∣}
+use Rattle.terms.specs.Choice.{if_then_else_, ∣_∣}
 use Rattle.figures.specs.Entry.{Entry, Filter, S, L, longOf, marked, cleared}
 use Rattle.figures.specs.Directory.{Directory, listOf, withP, withQ, withList, toTail, cached, remembered, listed}
 use Rattle.figures.specs.Words.{flags, words, zeros, encode}

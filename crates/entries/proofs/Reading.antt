@@ -7,7 +7,7 @@ use native.Mathlib.Numerals.{add-one}
 use native.Mathlib.Omega.{arith}
 use lib.ListN.{length, take, drop, getD, length-append, take-append-drop}
 use lib.Seq.{length-take-le, drop-cons, getD-at, getD-append-add}
-use Rattle.figures.specs.Choice.{∣_∣}
+use Rattle.terms.specs.Choice.{∣_∣}
 use Rattle.figures.specs.Entry.{Entry, newShort}
 use Rattle.figures.specs.Directory.{Directory, listOf, listed}
 use Rattle.figures.specs.Words.{flags, words, zeros, encode}

@@ -7,10 +7,11 @@ use Prim.Native.Nat.{ℕ, _+_, _*_, _≤_}
 use native.Mathlib.Omega.{arith}
 use lib.ListN.{getD}
 use lib.Dec.{eqb}
-use Rattle.figures.specs.Choice.{if_then_else_, ∣_∣}
+use Rattle.terms.specs.Choice.{if_then_else_, ∣_∣}
+use Rattle.terms.specs.Policies.{car}
 use Rattle.figures.specs.Directory.{Directory, unit, cached, remembered}
 use Rattle.figures.specs.Words.{encode, decode, size, nT1, nT2, nB1, nB2}
-use Rattle.figures.specs.Sound.{car, sound}
+use Rattle.figures.specs.Sound.{sound}
 use Rattle.laws.proofs.Facts.{CarFacts, CartFacts, Shared, Opened, own-by}
 use Rattle.laws.proofs.Encoding.{encoded, encode-decode, words-fit}
 use Rattle.laws.proofs.Soundness.{facts-of-words}

@@ -3,7 +3,7 @@
 use mathlib.Core.Path.{_≡_}
 use mathlib.Core.List.{List, _∷_, _++_}
 use Prim.Native.Nat.{ℕ, _+_, _*_, _≤_}
-use Rattle.figures.specs.Choice.{∣_∣}
+use Rattle.terms.specs.Choice.{∣_∣}
 use Rattle.figures.specs.Entry.{Entry, cleared, without, dropHead, total}
 use Rattle.figures.specs.Directory.{Directory, T1, T2, listOf, withList, toTail, cached, remembered}
 use Rattle.figures.specs.Words.{flags, words, encode}

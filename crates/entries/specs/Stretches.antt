@@ -3,7 +3,7 @@
 use mathlib.Core.List.{List, [], _∷_}
 use Prim.Native.Nat.{ℕ, zero, suc, _+_, _*_, _≤_}
 use lib.Dec.{eqb}
-use Rattle.figures.specs.Choice.{if_then_else_, ∣_∣}
+use Rattle.terms.specs.Choice.{if_then_else_, ∣_∣}
 use Rattle.figures.specs.Entry.{Entry, bits, long}
 use Rattle.figures.specs.Directory.{Name, T1, T2, B1, B2}
 use Rattle.figures.specs.Words.{nT1, nT2, nB1, used}

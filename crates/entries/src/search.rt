@@ -4,7 +4,8 @@ ghost use mathlib.Core.Path.{_≡_};
 ghost use Prim.Native.Nat.{_+_, _*_, _≤_};
 ghost use lib.ListN.{length, take, drop};
 ghost use Rattle.figures.specs.Entry.{differ};
-ghost use Rattle.figures.specs.Sound.{allAtMost, flagWords};
+ghost use Rattle.terms.specs.Choice.{allAtMost};
+ghost use Rattle.figures.specs.Sound.{flagWords};
 ghost use Rattle.entries.specs.Leaves.{OfEntries, FoundAt, Counted};
 
 // The place of the first of the n entries from word a on that is for page, or n.

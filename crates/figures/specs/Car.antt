@@ -3,7 +3,7 @@
 use mathlib.Core.List.{List, [], _∷_}
 use Prim.Native.Nat.{ℕ, suc, _+_, _-_, _*_, _/_, max, min}
 use lib.Dec.{eqb}
-use Rattle.figures.specs.Choice.{if_then_else_, ∣_∣}
+use Rattle.terms.specs.Choice.{if_then_else_, ∣_∣}
 use Rattle.figures.specs.Entry.{Entry, newShort, cleared, bits, without, dropHead}
 use Rattle.figures.specs.Directory.{Directory, unit, Name, T1, T2, B1, B2, withList, withP, toTail}
 use Rattle.figures.specs.Directory.{cached, remembered, inCache, t1AtTarget}

@@ -4,7 +4,7 @@ use mathlib.Core.Bool.{Bool, _||_}
 use mathlib.Core.List.{List, [], _∷_}
 use Prim.Native.Nat.{ℕ, suc, _+_, _-_, _*_, _/_, max, min}
 use lib.Dec.{leb, ltb, eqb}
-use Rattle.figures.specs.Choice.{if_then_else_, ∣_∣}
+use Rattle.terms.specs.Choice.{if_then_else_, ∣_∣}
 use Rattle.figures.specs.Entry.{Entry, Filter, S, L, newLong, cleared, madeLong}
 use Rattle.figures.specs.Entry.{bits, short, long, total, without, dropHead}
 use Rattle.figures.specs.Directory.{Directory, unit, T1, T2, B1, B2, withList, withP, withQ, toTail}

@@ -6,10 +6,11 @@ use mathlib.Core.List.{List, [], _∷_, _++_, map}
 use Prim.Native.Nat.{ℕ, _*_, _-_}
 use lib.ListN.{getD, take, drop, replicate}
 use lib.Dec.{eqb}
-use Rattle.figures.specs.Choice.{if_then_else_, ∣_∣, same}
+use Rattle.terms.specs.Choice.{if_then_else_, ∣_∣, same, every}
+use Rattle.terms.specs.Policies.{car, cart}
 use Rattle.figures.specs.Directory.{unit, fresh}
 use Rattle.figures.specs.Words.{words}
-use Rattle.figures.specs.Sound.{every, car, cart, sound}
+use Rattle.figures.specs.Sound.{sound}
 use Rattle.figures.specs.Request.{Served, request}
 use Rattle.figures.specs.Run.{Ran, run}
 

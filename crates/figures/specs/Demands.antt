@@ -6,12 +6,14 @@ use mathlib.Core.Logic.{_⊎_}
 use mathlib.Core.List.{List, [], _∷_, _++_}
 use Prim.Native.Nat.{ℕ, zero, suc, _+_, _*_, _≤_, _<_}
 use lib.Dec.{eqb}
-use Rattle.figures.specs.Choice.{if_then_else_, ∣_∣}
+use Rattle.terms.specs.Choice.{if_then_else_, ∣_∣}
+use Rattle.terms.specs.Limits.{knownSize}
+use Rattle.terms.specs.Policies.{car, cart, knownPolicy}
 use Rattle.figures.specs.Entry.{Entry, bits, short, long, total, has}
 use Rattle.figures.specs.Directory.{Directory, fresh, Name, B1, B2, listOf, withList}
 use Rattle.figures.specs.Directory.{cached, remembered, inCache, t1AtTarget}
 use Rattle.figures.specs.Words.{encode, decode}
-use Rattle.figures.specs.Sound.{car, cart, knownPolicy, knownSize, sound}
+use Rattle.figures.specs.Sound.{sound}
 use Rattle.figures.specs.Hand.{Hand, begin, Ends, Leads}
 use Rattle.figures.specs.Car as Car
 use Rattle.figures.specs.Cart as Cart

@@ -4,7 +4,7 @@ use mathlib.Core.Bool.{Bool, true, false}
 use mathlib.Core.List.{List, [], _∷_}
 use Prim.Native.Nat.{ℕ, _+_}
 use lib.Dec.{eqb}
-use Rattle.figures.specs.Choice.{if_then_else_}
+use Rattle.terms.specs.Choice.{if_then_else_}
 
 -- The filter: S, short-term utility, or L, long-term utility.
 pub data Filter : Type 0 where

@@ -5,43 +5,16 @@ use mathlib.Core.List.{List, _++_}
 use Prim.Native.Nat.{ℕ, _+_, _*_}
 use lib.ListN.{getD, drop}
 use lib.Dec.{ltb, eqb}
-use Rattle.figures.specs.Choice.{if_then_else_, ∣_∣}
+use Rattle.terms.specs.Choice.{if_then_else_, ∣_∣}
+use Rattle.terms.specs.Limits.{mostPages, knownSize}
+use Rattle.terms.specs.Policies.{knownPolicy}
+use Rattle.terms.specs.Refusals.{accepted, policyNotKnown, sizeNotKnown, wrongLength, notSound}
+use Rattle.terms.specs.Refusals.{tooManyPages, bufferTooShort}
 use Rattle.figures.specs.Directory.{fresh}
 use Rattle.figures.specs.Words.{encode, decode, size}
-use Rattle.figures.specs.Sound.{knownPolicy, knownSize, exactLength, sound}
+use Rattle.figures.specs.Sound.{exactLength, sound}
 use Rattle.figures.specs.Request.{Served, request}
 use Rattle.figures.specs.Run.{Tally, zeroTally, Ran, run}
-
--- The refusal numbers of the table.
-abbrev pub accepted : ℕ
-accepted = 0
-
-abbrev pub policyNotKnown : ℕ
-policyNotKnown = 1
-
-abbrev pub sizeNotKnown : ℕ
-sizeNotKnown = 2
-
-abbrev pub wrongLength : ℕ
-wrongLength = 3
-
-abbrev pub notSound : ℕ
-notSound = 4
-
-abbrev pub tooManyPages : ℕ
-tooManyPages = 5
-
-abbrev pub bufferTooShort : ℕ
-bufferTooShort = 6
-
-abbrev pub sheetTooLong : ℕ
-sheetTooLong = 7
-
-abbrev pub noSuchLine : ℕ
-noSuchLine = 8
-
-abbrev pub notInForm : ℕ
-notInForm = 9
 
 -- "Fresh directory: 1, 2, 3."
 unfoldable pub freshNumber : ℕ → ℕ → List ℕ → ℕ
@@ -65,7 +38,7 @@ checkNumber w =
 unfoldable pub runNumber : List ℕ → List ℕ → List ℕ → ℕ
 runNumber w trace answers =
     if not (eqb (checkNumber w) accepted) then checkNumber w
-    else if ltb 1000 ∣ trace ∣ then tooManyPages
+    else if ltb mostPages ∣ trace ∣ then tooManyPages
     else if ltb ∣ answers ∣ (4 * ∣ trace ∣) then bufferTooShort
     else accepted
 

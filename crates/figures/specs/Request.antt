@@ -4,11 +4,11 @@ use mathlib.Core.Bool.{_||_}
 use mathlib.Core.List.{List, [], _∷_}
 use Prim.Native.Nat.{ℕ}
 use lib.Dec.{eqb}
-use Rattle.figures.specs.Choice.{if_then_else_}
+use Rattle.terms.specs.Choice.{if_then_else_}
+use Rattle.terms.specs.Policies.{car}
 use Rattle.figures.specs.Entry.{has, mark}
 use Rattle.figures.specs.Directory.{Directory, T1, T2, withList, placeNew, cached}
 use Rattle.figures.specs.Hand.{Hand}
-use Rattle.figures.specs.Sound.{car}
 use Rattle.figures.specs.Car as Car
 use Rattle.figures.specs.Cart as Cart
 

@@ -1,24 +1,16 @@
 -- "A directory is sound when": a test on any words, a line for each phrase of document 01, in its order.
 -- Lengths are those that words 4 to 7 state, so that no damaged length escapes; entries are read through decode.
-use mathlib.Core.Bool.{Bool, true, false, _&&_, _||_}
+use mathlib.Core.Bool.{Bool, true}
 use mathlib.Core.List.{List, [], _∷_, _++_}
 use Prim.Native.Nat.{ℕ, _+_, _*_}
 use lib.ListN.{getD, take, drop}
 use lib.Dec.{leb, ltb, eqb}
-use Rattle.figures.specs.Choice.{if_then_else_, ∣_∣}
+use Rattle.terms.specs.Choice.{if_then_else_, ∣_∣, every, allAtMost}
+use Rattle.terms.specs.Limits.{knownSize}
+use Rattle.terms.specs.Policies.{car, knownPolicy}
 use Rattle.figures.specs.Entry.{Entry, bits, short, long, total, differ}
 use Rattle.figures.specs.Directory.{unit, listed}
 use Rattle.figures.specs.Words.{decode, size, nT1, nT2, nB1, nB2, used, unused}
-
--- All tests of the list hold.
-abbrev pub every : List Bool → Bool
-every [] = true
-every (b ∷ l) = if b then every l else false
-
--- All words of the list are at most n.
-abbrev pub allAtMost : ℕ → List ℕ → Bool
-allAtMost n [] = true
-allAtMost n (x ∷ w) = if leb x n then allAtMost n w else false
 
 -- No entry of the list counts: no bit is set, none is S, none is L.
 abbrev pub noneOf : (Entry → ℕ) → List Entry → Bool
@@ -29,19 +21,6 @@ abbrev pub flagWords : List ℕ → List ℕ
 flagWords [] = []
 flagWords (page ∷ []) = []
 flagWords (page ∷ flags ∷ w) = flags ∷ flagWords w
-
--- The policies: 1 CAR, 2 CART.
-abbrev pub car : ℕ
-car = 1
-
-abbrev pub cart : ℕ
-cart = 2
-
-abbrev pub knownPolicy : ℕ → Bool
-knownPolicy n = eqb n car || eqb n cart
-
-abbrev pub knownSize : ℕ → Bool
-knownSize c = leb 1 c && leb c 1024
 
 abbrev pub exactLength : List ℕ → Bool
 exactLength w = eqb ∣ w ∣ (8 + 4 * size w)

@@ -7,7 +7,8 @@ use Prim.Native.Nat.{ℕ, _+_, _*_, _≤_, _<_}
 use native.Mathlib.Omega.{arith}
 use lib.Dec.{eqb}
 use borrow.Author.Tests.{eqb-true, eqb-false, eq-eqb, ne-eqb}
-use Rattle.figures.specs.Choice.{∣_∣}
+use Rattle.terms.specs.Choice.{∣_∣}
+use Rattle.terms.proofs.Choice.{by-test, either}
 use Rattle.figures.specs.Entry.{Entry, Filter, newShort, bits, long, has, dropHead}
 use Rattle.figures.specs.Directory.{Directory, T1, T2, B1, B2, withList, placeNew}
 use Rattle.figures.specs.Directory.{cached, remembered, inCache, t1AtTarget}
@@ -15,7 +16,7 @@ use Rattle.figures.specs.Hand.{Hand, begin, Look, again, stop, none, here, back
 use Rattle.figures.specs.Car.{look, choose, evict, trim, placeB1, placeB2}
 use Rattle.figures.specs.Request.{hit}
 use Rattle.figures.specs.Demands.{CarStops, T2StaysChosen, Evicts, CarTrimHasHead}
-use Rattle.laws.proofs.Lists.{by-test, either, entryOf, length-tail, length-head-dropped, length-marked, length-without-at-most}
+use Rattle.laws.proofs.Lists.{entryOf, length-tail, length-head-dropped, length-marked, length-without-at-most}
 use Rattle.laws.proofs.Lists.{total-tail, total-head-dropped, total-without, total-marked-same}
 use Rattle.laws.proofs.Repeats.{ComesTo, Ended, repeat-ends}
 use Rattle.laws.proofs.Facts.{Shared, CarFacts, Opened, Trimmed}

@@ -8,7 +8,8 @@ use Prim.Native.Nat.{ℕ, _+_, _-_, _*_, _/_, _≤_, max, min}
 use native.Mathlib.Omega.{arith}
 use lib.Dec.{leb, ltb, eqb}
 use borrow.Author.Tests.{eqb-true, eqb-false, eq-eqb, ltb-true, ltb-false}
-use Rattle.figures.specs.Choice.{if_then_else_, ∣_∣}
+use Rattle.terms.specs.Choice.{if_then_else_, ∣_∣}
+use Rattle.terms.proofs.Choice.{by-test, by-tests, either}
 use Rattle.figures.specs.Entry.{Entry, Filter, S, L, newLong, cleared, bits, shortOf, longOf, short, long}
 use Rattle.figures.specs.Entry.{total, has, without, dropHead}
 use Rattle.figures.specs.Directory.{Directory, unit, T1, T2, B1, B2, withP, withQ, withList, toTail}
@@ -18,7 +19,7 @@ use Rattle.figures.specs.Cart.{raise, becomesLong, cost, firstLook, secondLook,
 use Rattle.figures.specs.Cart.{demoteT1, demoteT2, demotion, counted, evict, trim, placeB1, placeB2}
 use Rattle.figures.specs.Request.{hit}
 use Rattle.figures.specs.Demands.{Evicts, CartStops, HeadDropped, CartTrimHasHead}
-use Rattle.laws.proofs.Lists.{by-test, by-tests, either, entryOf, atHead, head-of-tail, short-or-long}
+use Rattle.laws.proofs.Lists.{entryOf, atHead, head-of-tail, short-or-long}
 use Rattle.laws.proofs.Lists.{total-tail, total-without, total-marked-same, total-head-dropped}
 use Rattle.laws.proofs.Repeats.{ComesTo, Ended, repeat-ends}
 use Rattle.laws.proofs.Facts.{Shared, CartFacts, Opened, Trimmed}

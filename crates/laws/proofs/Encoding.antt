@@ -1,47 +1,20 @@
 -- Words and directories are two forms of one thing: what is encoded decodes to itself, and sound words are those of a directory.
 -- The four lists are read at once where they can be: the words of all listed entries are the words in use.
 use mathlib.Core.Path.{_≡_, refl, sym, ap, _∙_}
-use mathlib.Core.Bool.{Bool, true, false, false≢true, and-eq-true-iff}
-use mathlib.Core.Logic.{_↔_}
+use mathlib.Core.Bool.{Bool, true, false}
 use mathlib.Core.List.{List, [], _∷_, _++_, append-assoc}
-use Prim.Native.Nat.{ℕ, zero, suc, _+_, _-_, _*_, _≤_, _<_}
+use Prim.Native.Nat.{ℕ, zero, suc, _+_, _-_, _*_, _≤_}
 use native.Mathlib.Nat.{zero-add, suc-add, add-assoc, mul-add}
 use native.Mathlib.Omega.{arith}
 use lib.ListN.{getD, take, drop, replicate, length-append, length-drop, length-replicate, take-append-drop}
 use lib.Seq.{drop-nil, drop-cons, drop-drop, drop-at, take-at}
-use lib.Dec.{eqb, leb, ltb}
-use borrow.Author.Tests.{ltb-true, lt-ltb, leb-true, le-leb, eqb-true, eq-eqb}
-use Rattle.figures.specs.Choice.{if_then_else_, ∣_∣}
+use Rattle.terms.specs.Choice.{∣_∣, allAtMost}
+use Rattle.terms.proofs.Tests.{reads}
 use Rattle.figures.specs.Entry.{Entry, Filter, S, L}
 use Rattle.figures.specs.Directory.{Directory, cached, remembered, listed}
 use Rattle.figures.specs.Words.{flags, entry, words, entries, size, nT1, nT2, nB1, nB2, used, unused, zeros, encode, decode}
-use Rattle.figures.specs.Sound.{allAtMost, flagWords, sound}
+use Rattle.figures.specs.Sound.{flagWords, sound}
 use Rattle.figures.specs.Demands.{WordsAreDirectories, WordsFit}
-
--- TESTS READ AS FACTS: `simp reads` turns a list of tests that all hold into a product of facts, and back.
-
-pub leb-iff : (a b : ℕ) → (leb a b ≡ true) ↔ (a ≤ b)
-leb-iff a b = (leb-true a b, le-leb a b)
-
-pub ltb-iff : (a b : ℕ) → (ltb a b ≡ true) ↔ (a < b)
-ltb-iff a b = (ltb-true a b, lt-ltb a b)
-
-pub eqb-iff : (a b : ℕ) → (eqb a b ≡ true) ↔ (a ≡ b)
-eqb-iff a b = (eqb-true a b, eq-eqb a b)
-
-pub both-iff : (a b : Bool) → ((if a then b else false) ≡ true) ↔ ((a ≡ true) × (b ≡ true))
-both-iff true b = (λ h. (refl, h), λ h. h .1)
-both-iff false b = (λ h. absurd (false≢true h), λ h. h .0)
-
-pub when-iff : (a b : Bool) → ((if a then b else true) ≡ true) ↔ (a ≡ true → b ≡ true)
-when-iff true b = (λ h i. h, λ h. h refl)
-when-iff false b = (λ h i. absurd (false≢true i), λ h. refl)
-
-pub unless-iff : (a b : Bool) → ((if a then false else b) ≡ true) ↔ ((a ≡ false) × (b ≡ true))
-unless-iff true b = (λ h. absurd (false≢true h), λ h. sym (h .0))
-unless-iff false b = (λ h. (refl, h), λ h. h .1)
-
-pub ruleset reads = (both-iff, when-iff, unless-iff, and-eq-true-iff, leb-iff, ltb-iff, eqb-iff)
 
 -- ENTRIES AND THEIR WORDS
 

@@ -5,10 +5,10 @@ use mathlib.Core.Bool.{true}
 use Prim.Native.Nat.{ℕ, _+_, _*_, _≤_, _<_}
 use native.Mathlib.Omega.{arith}
 use lib.Dec.{eqb}
-use Rattle.figures.specs.Choice.{if_then_else_, ∣_∣}
+use Rattle.terms.specs.Choice.{if_then_else_, ∣_∣}
+use Rattle.terms.specs.Policies.{car, knownPolicy}
 use Rattle.figures.specs.Entry.{Entry, bits, short, long, total}
 use Rattle.figures.specs.Directory.{Directory, unit, cached, remembered, inCache}
-use Rattle.figures.specs.Sound.{car, knownPolicy}
 use Rattle.laws.proofs.Lists.{is, one, length-counts}
 
 abbrev pub inHistory : (Entry → ℕ) → Directory → ℕ

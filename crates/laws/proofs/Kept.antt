@@ -7,16 +7,16 @@ use Prim.Native.Nat.{ℕ, _+_, _≤_, _<_}
 use native.Mathlib.Omega.{arith}
 use lib.Dec.{eqb}
 use borrow.Author.Tests.{eqb-true, eqb-false, eq-eqb}
-use Rattle.figures.specs.Choice.{if_then_else_}
+use Rattle.terms.specs.Choice.{if_then_else_}
+use Rattle.terms.specs.Policies.{car, knownPolicy}
+use Rattle.terms.proofs.Tests.{reads}
 use Rattle.figures.specs.Entry.{has}
 use Rattle.figures.specs.Directory.{Directory, fresh, placeNew, cached, remembered, inCache}
 use Rattle.figures.specs.Hand.{Hand}
-use Rattle.figures.specs.Sound.{car, knownPolicy}
 use Rattle.figures.specs.Request.{Policy, carPolicy, cartPolicy, policyOf, hit, missed, serve, request}
 use Rattle.figures.specs.Demands.{Sound, RequestKeeps, FreshIsSound}
 use Rattle.laws.proofs.Lists.{is}
 use Rattle.laws.proofs.Facts.{CarFacts, CartFacts, Shared, Opened, Trimmed}
-use Rattle.laws.proofs.Encoding.{reads}
 use Rattle.laws.proofs.Soundness.{facts, facts-sound}
 use Rattle.laws.proofs.Requests.{serve-by-cases, missed-by-cases, after}
 use Rattle.laws.proofs.Placing.{Roomy, Open, CameBack, counted-cached, found-counted, missed-uncounted, hit-either, hit-keeps, hit-cached}

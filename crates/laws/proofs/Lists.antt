@@ -1,29 +1,16 @@
 -- What a list of entries counts for: at a tail, without a page, with a bit set, without its head.
 -- Each law is over any count, so that sizes, bits, filters and pages are counted by the same ones.
 use mathlib.Core.Path.{_≡_, refl, ap, _∙_}
-use mathlib.Core.Bool.{Bool, true, false, _||_, true≢false, false≢true}
+use mathlib.Core.Bool.{Bool, true, false, true≢false, false≢true}
 use mathlib.Core.List.{List, [], _∷_, _++_}
 use Prim.Native.Nat.{ℕ, suc, _+_, _-_, _*_, _≤_}
 use native.Mathlib.Omega.{arith}
 use lib.ListN.{length-append}
 use lib.Dec.{eqb}
 use borrow.Author.Tests.{eq-eqb}
-use Rattle.figures.specs.Choice.{if_then_else_, ∣_∣}
+use Rattle.terms.specs.Choice.{if_then_else_, ∣_∣}
+use Rattle.terms.proofs.Choice.{either}
 use Rattle.figures.specs.Entry.{Entry, Filter, S, L, marked, bits, shortOf, longOf, short, long, total, has, mark, without, dropHead}
-
--- What each outcome of a test gives holds of the choice by it; of a choice by two tests, likewise.
-pub by-test : {A : Type 0} (P : A → Type 0) (b : Bool) {x y : A} → (b ≡ true → P x) → (b ≡ false → P y) → P (if b then x else y)
-by-test P true p q = p refl
-by-test P false p q = q refl
-
-pub by-tests : {A : Type 0} (P : A → Type 0) (b c : Bool) {x y : A}
-    → (b ≡ true → P x) → (c ≡ true → P x) → (b ≡ false → c ≡ false → P y) → P (if b || c then x else y)
-by-tests P true c p q r = p refl
-by-tests P false c p q r = by-test P c q (r refl)
-
--- What holds of both holds of the choice.
-pub either : {A : Type 0} (P : A → Type 0) (b : Bool) {x y : A} → P x → P y → P (if b then x else y)
-either P b p q = by-test P b (λ test. p) (λ test. q)
 
 -- An entry by its parts: a law by clauses on the bit and the filter is one on any entry.
 abbrev pub entryOf : ℕ → Bool → Filter → Entry

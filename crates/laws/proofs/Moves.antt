@@ -7,20 +7,21 @@ use Prim.Native.Nat.{ℕ, _+_, _*_, _≤_}
 use native.Mathlib.Omega.{arith}
 use lib.Dec.{eqb, ltb}
 use borrow.Author.Tests.{eqb-true}
-use Rattle.figures.specs.Choice.{if_then_else_, ∣_∣}
+use Rattle.terms.specs.Choice.{if_then_else_, ∣_∣}
+use Rattle.terms.specs.Policies.{car, cart, knownPolicy}
+use Rattle.terms.proofs.Choice.{either}
+use Rattle.terms.proofs.Tests.{reads}
 use Rattle.figures.specs.Entry.{newShort, newLong, bits, total}
 use Rattle.figures.specs.Directory.{Directory, fresh, placeNew, cached, remembered, inCache}
 use Rattle.figures.specs.Hand.{Hand}
-use Rattle.figures.specs.Sound.{car, cart, knownPolicy}
 use Rattle.figures.specs.Car as Car
 use Rattle.figures.specs.Cart as Cart
 use Rattle.figures.specs.Request.{Policy, carPolicy, cartPolicy, policyOf, Served, hit, serve, request}
 use Rattle.figures.specs.Run.{Tally, zeroTally, noted, runFrom}
 use Rattle.figures.specs.Demands.{Sound, StillRequests, CarMovesAreBitsCleared, RequestMovesAtMost}
 use Rattle.figures.specs.Demands.{movesEach, owed, RunMovesAtMost, lastMoves, CarRequestAtMost, CartRequestAtMost, CarRunAtMost, CartRunAtMost}
-use Rattle.laws.proofs.Lists.{either, total-tail, total-at-most, total-marked-at-most, bits-at-most-one}
+use Rattle.laws.proofs.Lists.{total-tail, total-at-most, total-marked-at-most, bits-at-most-one}
 use Rattle.laws.proofs.Facts.{Shared, CarFacts, CartFacts, Facts, own-by}
-use Rattle.laws.proofs.Encoding.{reads}
 use Rattle.laws.proofs.Soundness.{facts, by-policy}
 use Rattle.laws.proofs.Requests.{serve-by-cases, missed-by-cases, missed-moves, after, run-after}
 use Rattle.laws.proofs.Placing.{hit-either, raised}

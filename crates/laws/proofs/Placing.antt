@@ -7,14 +7,15 @@ use Prim.Native.Nat.{ℕ, _+_, _-_, _*_, _≤_, _<_, min}
 use native.Mathlib.Omega.{arith}
 use lib.Dec.{leb, eqb}
 use borrow.Author.Tests.{eqb-true, eq-eqb}
-use Rattle.figures.specs.Choice.{if_then_else_, ∣_∣}
+use Rattle.terms.specs.Choice.{if_then_else_, ∣_∣}
+use Rattle.terms.proofs.Choice.{either}
 use Rattle.figures.specs.Entry.{Entry, newShort, newLong, bits, total, has, mark, without}
 use Rattle.figures.specs.Directory.{Directory, unit, T1, T2, withLists, withList, withQ, cached, remembered, inCache, placeNew}
 use Rattle.figures.specs.Hand.{Hand}
 use Rattle.figures.specs.Car as Car
 use Rattle.figures.specs.Cart as Cart
 use Rattle.figures.specs.Request.{hit}
-use Rattle.laws.proofs.Lists.{either, is, has-counts, lacks-counts, counts-has, count-without, is-at-most-one}
+use Rattle.laws.proofs.Lists.{is, has-counts, lacks-counts, counts-has, count-without, is-at-most-one}
 use Rattle.laws.proofs.Lists.{length-tail, total-tail, total-at-most, length-marked, total-marked-same, length-without, total-without}
 use Rattle.laws.proofs.Facts.{inHistory, Shared, Opened, Trimmed}
 

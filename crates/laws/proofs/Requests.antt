@@ -5,7 +5,7 @@ use mathlib.Core.Bool.{Bool, true, false, _||_}
 use mathlib.Core.List.{List, [], _∷_, _++_}
 use Prim.Native.Nat.{ℕ}
 use lib.Dec.{eqb}
-use Rattle.figures.specs.Choice.{if_then_else_}
+use Rattle.terms.specs.Choice.{if_then_else_}
 use Rattle.figures.specs.Entry.{has}
 use Rattle.figures.specs.Directory.{Directory, cached}
 use Rattle.figures.specs.Hand.{Hand}
@@ -74,7 +74,7 @@ module _ (π : Policy) (x : ℕ) (h : Hand) where
       go false true e f = subst P (sym (missed-B2 e f)) (in-B2 e f)
       go false false e f = subst P (sym (missed-new e f)) (new e f)
 
-  -- The evicted page, its list and the moves are those of the evict part, wherever the requested page was.
+  -- The evicted page, its list and what was counted are those of the evict part, wherever the requested page was.
   pub missed-page : missed π x h .page ≡ h .page
   missed-page = missed-by-cases (λ s. s .page ≡ h .page) (λ e. refl) (λ e f. refl) (λ e f. refl)
 
@@ -83,6 +83,9 @@ module _ (π : Policy) (x : ℕ) (h : Hand) where
 
   pub missed-moves : missed π x h .moves ≡ h .moves
   missed-moves = missed-by-cases (λ s. s .moves ≡ h .moves) (λ e. refl) (λ e f. refl) (λ e f. refl)
+
+  pub missed-cleared : missed π x h .cleared ≡ h .cleared
+  missed-cleared = missed-by-cases (λ s. s .cleared ≡ h .cleared) (λ e. refl) (λ e f. refl) (λ e f. refl)
 
 -- The directory after a trace.
 abbrev pub after : List ℕ → Directory → Directory

@@ -9,15 +9,17 @@ use native.Mathlib.Omega.{arith}
 use lib.ListN.{take, drop, replicate}
 use lib.Dec.{eqb}
 use borrow.Author.Tests.{eqb-true}
-use Rattle.figures.specs.Choice.{if_then_else_}
+use Rattle.terms.specs.Choice.{if_then_else_, allAtMost}
+use Rattle.terms.specs.Policies.{car}
+use Rattle.terms.proofs.Tests.{reads}
 use Rattle.figures.specs.Entry.{Entry, Filter, S, L, longOf, total, differ}
 use Rattle.figures.specs.Directory.{Directory, cached, remembered, listed, inCache}
 use Rattle.figures.specs.Words.{flags, words, used, unused, encode, decode}
-use Rattle.figures.specs.Sound.{allAtMost, flagWords, car, carSound, cartSound, sound}
+use Rattle.figures.specs.Sound.{flagWords, carSound, cartSound, sound}
 use Rattle.figures.specs.Demands.{Sound}
 use Rattle.laws.proofs.Lists.{is, is-itself, total-append, lacks-counts, counts-lacks}
 use Rattle.laws.proofs.Facts.{inHistory, Shared, CarFacts, CartFacts, Facts}
-use Rattle.laws.proofs.Encoding.{reads, decode-encode, encode-decode, words-fit, used-words, unused-words}
+use Rattle.laws.proofs.Encoding.{decode-encode, encode-decode, words-fit, used-words, unused-words}
 
 -- Pages that differ are pages that count at most once.
 differ-counts : (l : List Entry) → differ l ≡ true → (x : ℕ) → total (is x) l ≤ 1

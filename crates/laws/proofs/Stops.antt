@@ -4,9 +4,9 @@ use mathlib.Core.Path.{_≡_}
 use mathlib.Core.Bool.{Bool, true, false}
 use native.Mathlib.Omega.{arith}
 use lib.Dec.{eqb}
-use Rattle.figures.specs.Choice.{if_then_else_}
+use Rattle.terms.specs.Choice.{if_then_else_}
+use Rattle.terms.specs.Policies.{car}
 use Rattle.figures.specs.Directory.{Directory, cached}
-use Rattle.figures.specs.Sound.{car}
 use Rattle.figures.specs.Car as Car
 use Rattle.figures.specs.Cart as Cart
 use Rattle.figures.specs.Request.{carPolicy, cartPolicy}

@@ -7,13 +7,14 @@ use Prim.Native.Nat.{ℕ, _+_, _≤_}
 use native.Mathlib.Omega.{arith}
 use lib.Dec.{eqb}
 use borrow.Author.Tests.{leb-true, leb-false}
-use Rattle.figures.specs.Choice.{if_then_else_, ∣_∣}
+use Rattle.terms.specs.Choice.{if_then_else_, ∣_∣}
+use Rattle.terms.proofs.Choice.{by-test}
 use Rattle.figures.specs.Entry.{Entry, Filter, bits, total, dropHead}
 use Rattle.figures.specs.Directory.{Directory, Name, T1, T2, B1, B2, withList, withLists, withQ}
 use Rattle.figures.specs.Directory.{cached, remembered, inCache, t1AtTarget}
 use Rattle.figures.specs.Hand.{Hand, begin, withDir, withCounts, demote}
 use Rattle.figures.specs.Demands.{Evicts, byPage, HeadDropped}
-use Rattle.laws.proofs.Lists.{by-test, entryOf, is, one, total-tail, total-head-dropped, length-head-dropped}
+use Rattle.laws.proofs.Lists.{entryOf, is, one, total-tail, total-head-dropped, length-head-dropped}
 use Rattle.laws.proofs.Facts.{inHistory, cached-counts, remembered-counts, Shared, Opened, Trimmed}
 
 -- The hand with l for its list i: with that list itself it is the same hand, so that a law by clauses on l is one on its list.

@@ -9,7 +9,7 @@ use lib.ListN.{take, drop, length-drop, drop-of-length-le}
 use lib.Seq.{take-all, drop-drop}
 use lib.Dec.{ltb}
 use borrow.Author.Tests.{lt-ltb, le-ltb, ltb-true, ltb-false}
-use Rattle.figures.specs.Choice.{if_then_else_, ∣_∣}
+use Rattle.terms.specs.Choice.{if_then_else_, ∣_∣}
 use Rattle.sheets.specs.Text.{placeOf}
 use Rattle.sheets.specs.Lines.{end, unclosed, line, lineFeed, lines}
 use Rattle.sheets.proofs.Text.{place-at-most}

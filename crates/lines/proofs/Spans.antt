@@ -8,8 +8,8 @@ use native.Mathlib.Omega.{arith}
 use lib.ListN.{take, drop, length-drop}
 use lib.Seq.{length-take-le}
 use borrow.Author.Tests.{lt-ltb, le-ltb}
-use Rattle.figures.specs.Choice.{if_then_else_, ∣_∣}
-use Rattle.figures.specs.Refusals.{accepted, sheetTooLong, noSuchLine}
+use Rattle.terms.specs.Choice.{if_then_else_, ∣_∣}
+use Rattle.terms.specs.Refusals.{accepted, sheetTooLong, noSuchLine}
 use Rattle.sheets.specs.Text.{placeOf}
 use Rattle.sheets.specs.Lines.{lines}
 use Rattle.sheets.specs.LookUp.{Place, between, nowhere, equalsSign, valueIn, valueOf}

@@ -1,12 +1,11 @@
 -- The cursor's answer: where the line that starts at a place of the sheet is closed.
 -- The look-up's spans: number and places as the definition has them, and the places within the sheet.
 use mathlib.Core.Path.{_≡_}
-use mathlib.Core.Bool.{Bool}
 use mathlib.Core.List.{List}
 use Prim.Native.Nat.{ℕ, _+_, _≤_}
 use lib.ListN.{drop}
 use lib.Dec.{ltb}
-use Rattle.figures.specs.Choice.{if_then_else_, ∣_∣}
+use Rattle.terms.specs.Choice.{if_then_else_, ∣_∣}
 use Rattle.sheets.specs.Text.{placeOf}
 use Rattle.sheets.specs.Lines.{lineFeed}
 use Rattle.sheets.specs.Refusals.{Found}

@@ -7,13 +7,8 @@ ghost use Rattle.sheets.specs.LookUp.{valueIn};
 ghost use Rattle.sheets.specs.Refusals.{foundAt, onLookUp};
 ghost use Rattle.lines.specs.Cursor.{lineAt, SpanOf, refusal};
 ghost use Rattle.lines.specs.Stretch.{Stretch, LookedUp};
-
-// Refusal numbers, and the most bytes that a sheet has.
-const SHEET_TOO_LONG: u32 = 7;
-
-const NO_SUCH_LINE: u32 = 8;
-
-const MOST_BYTES: usize = 16000;
+use terms::limits;
+use terms::refusals;
 
 // The line at a place: closed by the line feed at another, or not there.
 pub enum Line {
@@ -89,12 +84,12 @@ fn value_in(sheet: &[u8], at: usize, end: usize) -> Span
     let equals = at + text::place_of(&sheet[at..end], b'=');
     if equals < end {
         Span {
-            number: 0,
+            number: refusals::ACCEPTED,
             start: equals + 1,
             stop: end,
         }
     } else {
-        refused(NO_SUCH_LINE)
+        refused(refusals::NO_SUCH_LINE)
     }
 }
 
@@ -102,14 +97,14 @@ fn value_in(sheet: &[u8], at: usize, end: usize) -> Span
 pub fn span_of(sheet: &[u8], line: u32) -> Span
     ensures { λ r. ⌜ SpanOf (now (sheet .entry)) (onLookUp (now (sheet .entry)) line) r ⌝ }
 {
-    if MOST_BYTES < sheet.len() {
-        return refused(SHEET_TOO_LONG);
+    if limits::MOST_SHEET_BYTES < sheet.len() {
+        return refused(refusals::SHEET_TOO_LONG);
     }
     let mut n = 1;
     let mut at = 0;
     while n <= line {
         let Line::Closed(end) = line_at(sheet, at) else {
-            return refused(NO_SUCH_LINE);
+            return refused(refusals::NO_SUCH_LINE);
         };
         if n == line {
             return value_in(sheet, at, end);
@@ -117,7 +112,7 @@ pub fn span_of(sheet: &[u8], line: u32) -> Span
         at = end + 1;
         n += 1;
     }
-    refused(NO_SUCH_LINE)
+    refused(refusals::NO_SUCH_LINE)
 }
 
 // The part itself: it starts that many bytes on in the caller's slice.

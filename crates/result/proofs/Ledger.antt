@@ -4,7 +4,7 @@ use mathlib.Core.Path.{_≡_, refl}
 use Prim.Native.Nat.{ℕ, _+_, _^_, _≤_, _<_}
 use native.Mathlib.Omega.{arith}
 use lib.ListN.{length-append}
-use Rattle.figures.specs.Choice.{∣_∣}
+use Rattle.terms.specs.Choice.{∣_∣}
 use Rattle.sheets.specs.Text.{bytes}
 use Rattle.sheets.specs.Result.{decimal, lineOf}
 use Rattle.sheets.proofs.Lengths.{decimal-length, count-length}

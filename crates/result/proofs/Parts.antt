@@ -4,7 +4,7 @@ use mathlib.Core.Path.{_≡_, sym, ap, _∙_}
 use mathlib.Core.List.{_++_, append-assoc}
 use Prim.Native.Nat.{_+_}
 use lib.ListN.{length, length-append}
-use Rattle.figures.specs.Choice.{∣_∣}
+use Rattle.terms.specs.Choice.{∣_∣}
 use Rattle.sheets.specs.Text.{bytes}
 use Rattle.sheets.specs.Result.{Outcome, decimal, milliseconds, policyName, lineOf, resultSheet}
 use Rattle.result.specs.Parts.{tallyLines}

@@ -8,7 +8,7 @@ use native.Mathlib.Numerals.{add-one}
 use native.Mathlib.Nat.{zero-add}
 use lib.ListN.{set, take, drop, length-append, length-set, take-append-drop}
 use lib.Seq.{paste, take-length, take-paste, drop-paste, length-paste, take-suc-set, drop-set-lt, drop-drop}
-use Rattle.figures.specs.Choice.{∣_∣}
+use Rattle.terms.specs.Choice.{∣_∣}
 use Rattle.sheets.specs.Refusals.{over}
 use Rattle.result.specs.Put.{Room, Put}
 

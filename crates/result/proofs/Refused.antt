@@ -6,8 +6,8 @@ use mathlib.Core.List.{List}
 use Prim.Native.Nat.{ℕ, _≤_, _<_}
 use native.Mathlib.Nat.{zero-add}
 use borrow.Author.Tests.{lt-ltb, le-ltb}
-use Rattle.figures.specs.Choice.{∣_∣}
-use Rattle.figures.specs.Sound.{knownPolicy}
+use Rattle.terms.specs.Choice.{∣_∣}
+use Rattle.terms.specs.Policies.{knownPolicy}
 use Rattle.sheets.specs.Result.{resultSheet}
 use Rattle.sheets.specs.Refusals.{onWrite}
 use Rattle.result.specs.declared.Outcome.{Outcome}

@@ -4,8 +4,8 @@ use mathlib.Core.Path.{_≡_}
 use mathlib.Core.List.{List}
 use Prim.Native.Nat.{ℕ}
 use lib.Dec.{ltb}
-use Rattle.figures.specs.Choice.{if_then_else_, ∣_∣}
-use Rattle.figures.specs.Refusals.{accepted, bufferTooShort}
+use Rattle.terms.specs.Choice.{if_then_else_, ∣_∣}
+use Rattle.terms.specs.Refusals.{accepted, bufferTooShort}
 use Rattle.sheets.specs.Result as Sheet
 use Rattle.sheets.specs.Result.{refusedSheet}
 use Rattle.sheets.specs.Refusals as Sheets

@@ -2,16 +2,15 @@
 // Every writer is total: refusals 1 and 6. What it promises is in specs/Promises.
 ghost use mathlib.Core.Path.{_≡_};
 ghost use mathlib.Core.List.{[], _∷_, _++_};
-ghost use Rattle.figures.specs.Sound.{knownPolicy};
 ghost use Rattle.sheets.specs.Text.{bytes};
 ghost use Rattle.sheets.specs.Result.{lastDigit, decimal, milliseconds, policyName, lineOf, resultSheet};
 ghost use Rattle.result.specs.Put.{Room, Put};
 ghost use Rattle.result.specs.Parts.{tallyLines};
 ghost use Rattle.result.specs.Ledger.{requestLine};
 ghost use Rattle.result.specs.Promises.{defined, WroteSheet, WroteRefusal, WroteRequest};
-
-// The least number of lent bytes.
-const LEAST: usize = 256;
+use terms::limits;
+use terms::policies;
+use terms::refusals;
 
 // What the sheet says, the wait in thousandths of a millisecond.
 pub struct Outcome {
@@ -109,7 +108,7 @@ fn put_policy(out: &mut [u8], at: usize, policy: u32) -> usize
     requires { ⌜ Room (now out) at (lineOf (bytes "policy=") (policyName policy)) ⌝ }
     ensures { λ r. ⌜ Put (now (out .entry)) at (lineOf (bytes "policy=") (policyName policy)) (now (out .exit)) r ⌝ }
 {
-    if policy == 1 {
+    if policy == policies::CAR {
         put(out, at, b"policy=car\n")
     } else {
         put(out, at, b"policy=cart\n")
@@ -148,30 +147,24 @@ fn put_sheet(out: &mut [u8], o: Outcome) -> usize
     put_wait(out, next, o.wait)
 }
 
-fn known_policy(policy: u32) -> bool
-    ensures { λ r. ⌜ r ≡ knownPolicy policy ⌝ }
-{
-    policy == 1 || policy == 2
-}
-
 // The result sheet of an outcome, in front of the lent bytes. Refusals 1 and 6.
 pub fn write(out: &mut [u8], outcome: Outcome) -> Written
     ensures { λ r. ⌜ WroteSheet outcome (now (out .entry)) r (now (out .exit)) ⌝ }
 {
-    if !known_policy(outcome.policy) {
+    if !policies::known_policy(outcome.policy) {
         return Written {
-            number: 1,
+            number: refusals::POLICY_NOT_KNOWN,
             count: 0,
         };
     }
-    if out.len() < LEAST {
+    if out.len() < limits::LEAST_RESULT_BYTES {
         return Written {
-            number: 6,
+            number: refusals::BUFFER_TOO_SHORT,
             count: 0,
         };
     }
     Written {
-        number: 0,
+        number: refusals::ACCEPTED,
         count: put_sheet(out, outcome),
     }
 }
@@ -180,15 +173,15 @@ pub fn write(out: &mut [u8], outcome: Outcome) -> Written
 pub fn write_refusal(out: &mut [u8], number: u32, line: u32) -> Written
     ensures { λ r. ⌜ WroteRefusal number line (now (out .entry)) r (now (out .exit)) ⌝ }
 {
-    if out.len() < LEAST {
+    if out.len() < limits::LEAST_RESULT_BYTES {
         return Written {
-            number: 6,
+            number: refusals::BUFFER_TOO_SHORT,
             count: 0,
         };
     }
     let next = put_line(out, 0, b"refused=", number);
     Written {
-        number: 0,
+        number: refusals::ACCEPTED,
         count: put_line(out, next, b"line=", line),
     }
 }
@@ -226,14 +219,14 @@ pub fn write_request(
 ) -> Written
     ensures { λ r. ⌜ WroteRequest request page kind evicted list moves (now (out .entry)) r (now (out .exit)) ⌝ }
 {
-    if out.len() < LEAST {
+    if out.len() < limits::LEAST_RESULT_BYTES {
         return Written {
-            number: 6,
+            number: refusals::BUFFER_TOO_SHORT,
             count: 0,
         };
     }
     Written {
-        number: 0,
+        number: refusals::ACCEPTED,
         count: put_request(out, request, page, kind, evicted, list, moves),
     }
 }

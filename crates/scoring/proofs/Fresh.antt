@@ -7,10 +7,11 @@ use Prim.Native.Nat.{ℕ, _+_, _*_, _≤_}
 use native.Mathlib.Omega.{arith}
 use lib.Dec.{eqb}
 use borrow.Author.Tests.{le-leb, le-ltb, eq-eqb, eqb-false}
-use Rattle.figures.specs.Choice.{∣_∣}
+use Rattle.terms.specs.Choice.{∣_∣}
+use Rattle.terms.specs.Limits.{knownSize}
+use Rattle.terms.specs.Policies.{car, cart, knownPolicy}
 use Rattle.figures.specs.Directory.{Directory, fresh}
 use Rattle.figures.specs.Words.{encode}
-use Rattle.figures.specs.Sound.{car, cart, knownPolicy, knownSize}
 use Rattle.figures.specs.Refusals as Refusals
 use Rattle.figures.specs.Refusals.{freshNumber, checkNumber, runNumber, onFresh, onCheck, onRun, servedRun}
 use Rattle.figures.specs.Run.{run}

@@ -7,7 +7,7 @@ use native.Mathlib.Omega.{arith}
 use native.Mathlib.Nat.{zero-add}
 use lib.ListN.{take, drop}
 use lib.Seq.{take-at, length-take-le}
-use Rattle.figures.specs.Choice.{∣_∣}
+use Rattle.terms.specs.Choice.{∣_∣}
 use Rattle.figures.specs.Directory.{fresh}
 use Rattle.figures.specs.Run.{zeroTally}
 use Rattle.sheets.specs.Bid.{Meaning, bid, refused, meaning}

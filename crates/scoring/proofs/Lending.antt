@@ -7,7 +7,7 @@ use Prim.Native.Nat.{ℕ, _+_, _*_}
 use lib.Dec.{leb}
 use borrow.Author.Needs.{needs}
 use borrow.Author.Tests.{leb-true, not-true, not-false}
-use Rattle.figures.specs.Choice.{∣_∣}
+use Rattle.terms.specs.Choice.{∣_∣}
 use Rattle.scoring.specs.declared.Scored.{Scored}
 use Rattle.scoring.specs.Refusals.{enough, onSheet}
 use Rattle.scoring.specs.Promises.{Answers}

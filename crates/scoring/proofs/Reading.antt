@@ -6,7 +6,7 @@ use Prim.Native.Nat.{ℕ, _≤_}
 use native.Mathlib.Omega.{arith}
 use lib.ListN.{take}
 use lib.Seq.{take-at}
-use Rattle.figures.specs.Choice.{∣_∣}
+use Rattle.terms.specs.Choice.{∣_∣}
 use Rattle.sheets.specs.Bid.{Meaning, bid, refused, meaning}
 use Rattle.sheets.specs.Refusals.{answer, over}
 use Rattle.sheets.proofs.Refused.{refusal-has-number}

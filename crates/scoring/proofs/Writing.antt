@@ -9,8 +9,8 @@ use native.Mathlib.Omega.{arith}
 use lib.ListN.{take, drop, length-append, length-drop, take-append-drop}
 use lib.Seq.{paste, length-take-le, take-length, drop-append-le, drop-drop}
 use borrow.Author.Tests.{le-ltb}
-use Rattle.figures.specs.Choice.{∣_∣}
-use Rattle.figures.specs.Sound.{knownPolicy}
+use Rattle.terms.specs.Choice.{∣_∣}
+use Rattle.terms.specs.Policies.{knownPolicy}
 use Rattle.sheets.specs.Result.{resultSheet}
 use Rattle.sheets.specs.Refusals.{over, onWrite}
 use Rattle.result.specs.declared.Outcome.{Outcome}

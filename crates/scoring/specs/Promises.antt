@@ -3,7 +3,7 @@
 use mathlib.Core.Path.{_≡_}
 use mathlib.Core.List.{List}
 use Prim.Native.Nat.{ℕ, _≤_}
-use Rattle.figures.specs.Choice.{∣_∣}
+use Rattle.terms.specs.Choice.{∣_∣}
 use Rattle.scoring.specs.declared.Scored.{Scored}
 use Rattle.scoring.specs.Refusals.{Scoring, onScore, onLedger}
 

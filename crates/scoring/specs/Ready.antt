@@ -4,11 +4,11 @@ use mathlib.Core.Path.{_≡_}
 use mathlib.Core.List.{List}
 use Prim.Native.Nat.{ℕ, _+_, _*_, _≤_, _<_}
 use lib.ListN.{getD, take, drop}
-use Rattle.figures.specs.Choice.{∣_∣}
+use Rattle.terms.specs.Choice.{∣_∣}
+use Rattle.terms.specs.Refusals.{accepted}
 use Rattle.figures.specs.Directory.{fresh}
 use Rattle.figures.specs.Run.{run}
 use Rattle.figures.specs.Words.{encode}
-use Rattle.figures.specs.Refusals.{accepted}
 use Rattle.tally.specs.Note.{defined}
 use Rattle.tally.specs.declared.Tally.{Tally}
 use Rattle.sheets.specs.Bid as Sheet

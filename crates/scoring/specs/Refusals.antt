@@ -4,9 +4,10 @@ use mathlib.Core.Bool.{Bool, _&&_}
 use mathlib.Core.List.{List, []}
 use Prim.Native.Nat.{ℕ, _+_, _*_}
 use lib.Dec.{leb}
-use Rattle.figures.specs.Choice.{if_then_else_, ∣_∣}
+use Rattle.terms.specs.Choice.{if_then_else_, ∣_∣}
+use Rattle.terms.specs.Limits.{mostPages, mostSize}
+use Rattle.terms.specs.Refusals.{accepted, bufferTooShort}
 use Rattle.figures.specs.Words.{encode}
-use Rattle.figures.specs.Refusals.{accepted, bufferTooShort}
 use Rattle.sheets.specs.Bid.{Bid, Meaning, bid, refused, meaning}
 use Rattle.sheets.specs.Refusals.{over}
 use Rattle.scoring.specs.Scored.{replayed, scored, ledgered}
@@ -24,7 +25,7 @@ pub record Scoring : Type 0 where
 -- Memory enough for any bid: 1,000 pages, a directory of 1,024, four words an answer, and bytes to print into.
 unfoldable pub enough : ℕ → List ℕ → List ℕ → List ℕ → List ℕ → Bool
 enough least pages dir answers out =
-    leb 1000 ∣ pages ∣ && (leb (8 + 4 * 1024) ∣ dir ∣ && (leb (4 * 1000) ∣ answers ∣ && leb least ∣ out ∣))
+    leb mostPages ∣ pages ∣ && (leb (8 + 4 * mostSize) ∣ dir ∣ && (leb (4 * mostPages) ∣ answers ∣ && leb least ∣ out ∣))
 
 -- A refused call: its number and line, its text in front of the bytes, all other lent memory as it was.
 abbrev pub refusedScore : ℕ → ℕ → List ℕ → List ℕ → List ℕ → List ℕ → List ℕ → Scoring

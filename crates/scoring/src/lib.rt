@@ -8,20 +8,20 @@ ghost use Rattle.scoring.specs.Refusals.{enough};
 ghost use Rattle.scoring.specs.Ready.{Fitting, RanFresh, Good, BidScored, Lent, AnsweredWith};
 ghost use Rattle.scoring.specs.Ready.{refusedScored, Request, LinePut, Requests};
 ghost use Rattle.scoring.specs.Promises.{SheetScored, SheetLedgered};
+use terms::limits;
+use terms::refusals;
 
-// The least numbers of lent words: pages, a directory of 1,024 (8 + 4c words), and answers.
-const PAGES: usize = 1000;
+// The least numbers of lent words: a directory of 1,024 (8 + 4c words), and answers.
+const WORDS: usize = 8 + 4 * limits::MOST_SIZE as usize;
 
-const WORDS: usize = 4104;
-
-const ANSWERS: usize = 4000;
+const ANSWERS: usize = 4 * limits::MOST_PAGES;
 
 // The least numbers of lent bytes: for what is printed of a sheet, for a line, and for a sheet with 1,000 lines.
-const SHEET: usize = 256;
+const SHEET: usize = limits::LEAST_RESULT_BYTES;
 
-const LINE: usize = 256;
+const LINE: usize = limits::LEAST_RESULT_BYTES;
 
-const LEDGER: usize = 256256;
+const LEDGER: usize = (limits::MOST_PAGES + 1) * LINE;
 
 // The number and line of the sheet's refusal, zeros where it is accepted; how many bytes stand in front of out; and how
 // many requests were served: their pages and answers stand in front of the lent words.
@@ -97,7 +97,7 @@ fn score_bid(
         },
     );
     Scored {
-        number: 0,
+        number: refusals::ACCEPTED,
         line: 0,
         count: written.count,
         requests: bid.count,
@@ -118,7 +118,7 @@ fn score_sheet(
         r (now (pages .exit)) (now (dir .exit)) (now (answers .exit)) (now (out .exit)) ⌝ }
 {
     let bid = bid::read(sheet, pages);
-    if bid.number != 0 {
+    if bid.number != refusals::ACCEPTED {
         let written = result::write_refusal(out, bid.number, bid.line);
         return refused(bid.number, bid.line, written.count);
     }
@@ -195,7 +195,8 @@ fn lends_enough(least: usize, pages: &[u32], dir: &[u32], answers: &[u32], out: 
     ensures { λ r. ⌜ r ≡ enough least (now (pages .entry)) (now (dir .entry))
         (now (answers .entry)) (now (out .entry)) ⌝ }
 {
-    PAGES <= pages.len() && (WORDS <= dir.len() && (ANSWERS <= answers.len() && least <= out.len()))
+    limits::MOST_PAGES <= pages.len()
+        && (WORDS <= dir.len() && (ANSWERS <= answers.len() && least <= out.len()))
 }
 
 // Scores a sheet: what is to be printed stands in front of out. Refusal 6 for too little memory, then the sheet's own.
@@ -211,7 +212,7 @@ pub fn score(
         r (now (pages .exit)) (now (dir .exit)) (now (answers .exit)) (now (out .exit)) ⌝ }
 {
     if !lends_enough(SHEET, pages, dir, answers, out) {
-        return refused(6, 0, 0);
+        return refused(refusals::BUFFER_TOO_SHORT, 0, 0);
     }
     score_sheet(sheet, pages, dir, answers, out)
 }
@@ -229,7 +230,7 @@ pub fn ledger(
         r (now (pages .exit)) (now (dir .exit)) (now (answers .exit)) (now (out .exit)) ⌝ }
 {
     if !lends_enough(LEDGER, pages, dir, answers, out) {
-        return refused(6, 0, 0);
+        return refused(refusals::BUFFER_TOO_SHORT, 0, 0);
     }
     ledger_sheet(sheet, pages, dir, answers, out)
 }

@@ -8,10 +8,10 @@ use native.Mathlib.Omega.{arith}
 use lib.ListN.{drop}
 use lib.Dec.{ltb}
 use borrow.Author.Tests.{ltb-true}
-use Rattle.figures.specs.Choice.{∣_∣, same}
-use Rattle.figures.specs.Sound.{allAtMost, knownSize}
-use Rattle.laws.proofs.Lists.{by-test, either}
-use Rattle.laws.proofs.Encoding.{reads}
+use Rattle.terms.specs.Choice.{∣_∣, same, allAtMost}
+use Rattle.terms.specs.Limits.{knownSize}
+use Rattle.terms.proofs.Choice.{by-test, either}
+use Rattle.terms.proofs.Tests.{reads}
 use Rattle.sheets.specs.Text.{bytes, starts}
 use Rattle.sheets.specs.Number.{Value, means, wrong, wholeForm, whole, costForm, missCost}
 use Rattle.sheets.specs.Lines.{Lines, end, unclosed, line, lines, Reading, good, bad, before, under}

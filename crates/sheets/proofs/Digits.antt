@@ -9,10 +9,10 @@ use native.Mathlib.Nat.{pow-le-pow-right}
 use lib.ListN.{getD, take, drop, length-drop}
 use lib.Seq.{take-all}
 use borrow.Author.Tests.{le-leb, lt-leb}
-use Rattle.figures.specs.Choice.{if_then_else_, ∣_∣}
-use Rattle.figures.specs.Refusals.{notInForm}
-use Rattle.laws.proofs.Lists.{by-test, either}
-use Rattle.laws.proofs.Encoding.{reads}
+use Rattle.terms.specs.Choice.{if_then_else_, ∣_∣}
+use Rattle.terms.specs.Refusals.{notInForm}
+use Rattle.terms.proofs.Choice.{by-test, either}
+use Rattle.terms.proofs.Tests.{reads}
 use Rattle.sheets.specs.Text.{placeOf}
 use Rattle.sheets.specs.Number.{means, wrong, zeroDigit, comma, isDigit, allDigits, valueAfter, value}
 use Rattle.sheets.specs.Number.{noLeadingZero, digitsForm, whole, beforeComma, afterComma, costForm, missCost}

@@ -6,9 +6,9 @@ use Prim.Native.Nat.{ℕ, _+_, _/_, _^_, _≤_, _<_}
 use native.Mathlib.Omega.{arith}
 use lib.ListN.{length-append}
 use lib.Dec.{eqb}
-use Rattle.figures.specs.Choice.{∣_∣}
-use Rattle.figures.specs.Sound.{car}
-use Rattle.laws.proofs.Lists.{either}
+use Rattle.terms.specs.Choice.{∣_∣}
+use Rattle.terms.specs.Policies.{car}
+use Rattle.terms.proofs.Choice.{either}
 use Rattle.sheets.specs.Text.{bytes}
 use Rattle.sheets.specs.Result.{Outcome, decimal, milliseconds, policyName, lineOf, resultSheet}
 use Rattle.sheets.specs.Demands.{ResultFits}

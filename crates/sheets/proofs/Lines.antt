@@ -7,8 +7,8 @@ use Prim.Native.Nat.{ℕ, suc, _+_, _≤_, _<_}
 use native.Mathlib.Omega.{arith}
 use lib.ListN.{getD, take, drop}
 use lib.Dec.{eqb}
-use Rattle.figures.specs.Choice.{if_then_else_, ∣_∣}
-use Rattle.laws.proofs.Lists.{either}
+use Rattle.terms.specs.Choice.{if_then_else_, ∣_∣}
+use Rattle.terms.proofs.Choice.{either}
 use Rattle.sheets.specs.Text.{placeOf}
 use Rattle.sheets.specs.Lines.{Lines, end, unclosed, line, lineFeed, behind, lines}
 use Rattle.sheets.proofs.Text.{from-place}

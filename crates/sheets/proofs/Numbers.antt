@@ -10,8 +10,8 @@ use lib.ListN.{getD, length-append, List·getD-append}
 use lib.Seq.{take-append-seam, drop-append-add}
 use lib.Dec.{leb, ltb, eqb}
 use borrow.Author.Tests.{ltb-true, ltb-false, lt-ltb, le-ltb, le-leb, ne-eqb, eqb-false}
-use Rattle.figures.specs.Choice.{if_then_else_, ∣_∣}
-use Rattle.laws.proofs.Lists.{by-test}
+use Rattle.terms.specs.Choice.{if_then_else_, ∣_∣}
+use Rattle.terms.proofs.Choice.{by-test}
 use Rattle.sheets.specs.Text.{placeOf}
 use Rattle.sheets.specs.Number.{zeroDigit, comma, isDigit, allDigits, value, valueAfter, noLeadingZero, digitsForm, whole}
 use Rattle.sheets.specs.Number.{means, beforeComma, afterComma, missCost}

@@ -7,12 +7,12 @@ use Prim.Native.Nat.{ℕ, suc, _<_}
 use lib.ListN.{drop}
 use lib.Dec.{ltb}
 use borrow.Author.Tests.{ltb-true}
-use Rattle.figures.specs.Choice.{if_then_else_, ∣_∣}
-use Rattle.figures.specs.Refusals.{tooManyPages, noSuchLine}
+use Rattle.terms.specs.Choice.{if_then_else_, ∣_∣}
+use Rattle.terms.specs.Refusals.{tooManyPages, noSuchLine}
 use Rattle.sheets.specs.Text.{bytes, starts}
 use Rattle.sheets.specs.Number.{Value, means, wrong, whole}
 use Rattle.sheets.specs.Lines.{Lines, end, unclosed, line, Reading, good, bad, before}
-use Rattle.sheets.specs.Bid.{Pages, listed, refusedAt, numberOfLine, onto, pageMeant, pageLine, pagesFrom}
+use Rattle.sheets.specs.Bid.{listed, refusedAt, numberOfLine, onto, pageMeant, pageLine, pagesFrom}
 
 -- A good reading is no refusal, and has one value and one rest; so is a value that means a number.
 abbrev pub isGood : Reading → Bool

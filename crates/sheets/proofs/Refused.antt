@@ -1,15 +1,14 @@
 -- A refused sheet has a number: no refusal passes for the 0 of an accepted one.
 -- Assumes nothing.
-use mathlib.Core.Path.{_≡_, subst}
-use mathlib.Core.Bool.{Bool}
+use mathlib.Core.Path.{subst}
 use mathlib.Core.List.{List, []}
 use Prim.Native.Nat.{ℕ, suc, _≤_}
 use native.Mathlib.Omega.{arith}
 use lib.ListN.{drop}
 use lib.Dec.{ltb}
-use Rattle.figures.specs.Choice.{∣_∣}
-use Rattle.figures.specs.Sound.{knownSize}
-use Rattle.laws.proofs.Lists.{either}
+use Rattle.terms.specs.Choice.{∣_∣}
+use Rattle.terms.specs.Limits.{knownSize}
+use Rattle.terms.proofs.Choice.{either}
 use Rattle.sheets.specs.Text.{bytes, starts}
 use Rattle.sheets.specs.Number.{Value, means, wrong, wholeForm, whole, costForm, missCost}
 use Rattle.sheets.specs.Lines.{Lines, end, unclosed, line, lines, Reading, good, bad, before, under}

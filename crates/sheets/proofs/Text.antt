@@ -1,16 +1,16 @@
 -- The first place of a byte, and a key in front of bytes, read on from a place: what a loop over the bytes wants.
 -- Assumes nothing.
 use mathlib.Core.Path.{_≡_, refl, ap, _∙_}
-use mathlib.Core.Bool.{Bool, true, false}
+use mathlib.Core.Bool.{Bool, false}
 use mathlib.Core.List.{List, [], _∷_}
 use Prim.Native.Nat.{ℕ, suc, _+_, _≤_, _<_}
 use native.Mathlib.Omega.{arith}
-use lib.ListN.{getD, drop, drop-of-length-le}
+use lib.ListN.{getD, drop}
 use lib.Seq.{drop-cons}
 use lib.Dec.{eqb}
 use borrow.Author.Tests.{eq-eqb, ne-eqb}
-use Rattle.figures.specs.Choice.{if_then_else_, ∣_∣, same}
-use Rattle.laws.proofs.Lists.{either}
+use Rattle.terms.specs.Choice.{if_then_else_, ∣_∣, same}
+use Rattle.terms.proofs.Choice.{either}
 use Rattle.sheets.specs.Text.{placeOf, starts}
 
 pub place-at-most : (x : ℕ) (s : List ℕ) → placeOf x s ≤ ∣ s ∣

@@ -1,12 +1,12 @@
 -- What a bid sheet means: a bid, or a refusal's number with its line. Every byte sequence means exactly one of them.
 -- "The first line that is wrong decides the refusal, and its number from 1 is given with it".
-use mathlib.Core.Bool.{Bool}
 use mathlib.Core.List.{List, [], _∷_}
 use Prim.Native.Nat.{ℕ, suc, _+_}
 use lib.Dec.{ltb}
-use Rattle.figures.specs.Choice.{if_then_else_, ∣_∣, same}
-use Rattle.figures.specs.Sound.{car, cart, knownSize}
-use Rattle.figures.specs.Refusals.{policyNotKnown, sizeNotKnown, tooManyPages, sheetTooLong}
+use Rattle.terms.specs.Choice.{if_then_else_, ∣_∣, same}
+use Rattle.terms.specs.Limits.{mostPages, mostSheetBytes, knownSize}
+use Rattle.terms.specs.Policies.{car, cart}
+use Rattle.terms.specs.Refusals.{policyNotKnown, sizeNotKnown, tooManyPages, sheetTooLong}
 use Rattle.sheets.specs.Text.{bytes}
 use Rattle.sheets.specs.Number.{Value, means, wrong, whole, missCost}
 use Rattle.sheets.specs.Lines.{Lines, end, unclosed, line, lines, Reading, good, bad, under}
@@ -60,7 +60,7 @@ costLine ls = under (bytes "misscost=") missCost ls
 
 -- "8, then 5 if it is the 1,001st page line, then the value": n page lines stand before this one.
 abbrev pub pageMeant : ℕ → List ℕ → Value
-pageMeant n s = if ltb n 1000 then whole s else wrong tooManyPages
+pageMeant n s = if ltb n mostPages then whole s else wrong tooManyPages
 
 unfoldable pub pageLine : ℕ → Lines → Reading
 pageLine n ls = under (bytes "page=") (pageMeant n) ls
@@ -104,4 +104,4 @@ inOrder ls =
 
 -- "A bid sheet, at most 16,000 bytes", "0 for 6 and 7"
 unfoldable pub meaning : List ℕ → Meaning
-meaning s = if ltb 16000 ∣ s ∣ then refused sheetTooLong 0 else inOrder (lines s)
+meaning s = if ltb mostSheetBytes ∣ s ∣ then refused sheetTooLong 0 else inOrder (lines s)

@@ -3,9 +3,8 @@
 use mathlib.Core.Path.{_≡_}
 use mathlib.Core.Bool.{true}
 use mathlib.Core.List.{List}
-use Prim.Native.Nat.{ℕ, _+_, _*_, _^_, _/_, _%_, _≤_, _<_}
-use Rattle.figures.specs.Choice.{∣_∣}
-use Rattle.figures.specs.Sound.{allAtMost}
+use Prim.Native.Nat.{ℕ, _^_, _/_, _%_, _≤_, _<_}
+use Rattle.terms.specs.Choice.{∣_∣, allAtMost}
 use Rattle.sheets.specs.Number.{means, allDigits, value, digitsForm, whole, beforeComma, afterComma, missCost}
 use Rattle.sheets.specs.Bid.{Bid, bid, refused, meaning}
 use Rattle.sheets.specs.Result.{Outcome, decimal, milliseconds, resultSheet}

@@ -4,12 +4,12 @@ use mathlib.Core.Path.{_≡_}
 use mathlib.Core.List.{List, [], _∷_}
 use Prim.Native.Nat.{ℕ}
 use Prim.Native.String.{String}
-use Rattle.figures.specs.Sound.{car, cart}
+use Rattle.terms.specs.Policies.{car, cart}
 use Rattle.sheets.specs.Text.{bytes}
-use Rattle.sheets.specs.Number.{Value, means, wrong, whole, missCost}
+use Rattle.sheets.specs.Number.{means, wrong, whole, missCost}
 use Rattle.sheets.specs.Lines.{lines}
-use Rattle.sheets.specs.Bid.{Bid, Meaning, bid, refused, meaning}
-use Rattle.sheets.specs.LookUp.{Place, between, nowhere, valueOf}
+use Rattle.sheets.specs.Bid.{Meaning, bid, refused, meaning}
+use Rattle.sheets.specs.LookUp.{between, nowhere, valueOf}
 use Rattle.sheets.specs.Result.{Outcome, resultSheet, refusedSheet}
 
 -- "So `1,250` is 1,250 thousandths, `0,000` is good; `1250`, `1.250`, `01,250` and `1,25` are refused."

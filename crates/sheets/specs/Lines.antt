@@ -1,12 +1,11 @@
 -- A sheet's lines: "each closed by one line feed".
 -- Any bytes are lines: some closed ones, and then the end or bytes that no line feed closes.
-use mathlib.Core.Bool.{Bool}
 use mathlib.Core.List.{List, [], _∷_}
 use Prim.Native.Nat.{ℕ}
 use lib.ListN.{drop}
 use lib.Dec.{eqb}
-use Rattle.figures.specs.Choice.{if_then_else_, ∣_∣}
-use Rattle.figures.specs.Refusals.{noSuchLine}
+use Rattle.terms.specs.Choice.{if_then_else_, ∣_∣}
+use Rattle.terms.specs.Refusals.{noSuchLine}
 use Rattle.sheets.specs.Text.{starts}
 use Rattle.sheets.specs.Number.{Value, means, wrong}
 

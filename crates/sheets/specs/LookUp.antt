@@ -1,10 +1,9 @@
 -- The look-up by line number: where in the sheet the value of a line stands.
 -- "the bytes after the first `=` and before the line feed, as that stretch of the sheet itself"
-use mathlib.Core.Bool.{Bool}
 use mathlib.Core.List.{List}
 use Prim.Native.Nat.{ℕ, zero, suc, _+_}
 use lib.Dec.{ltb}
-use Rattle.figures.specs.Choice.{if_then_else_, ∣_∣}
+use Rattle.terms.specs.Choice.{if_then_else_, ∣_∣}
 use Rattle.sheets.specs.Text.{placeOf}
 use Rattle.sheets.specs.Lines.{Lines, end, unclosed, line}
 

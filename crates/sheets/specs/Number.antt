@@ -5,9 +5,8 @@ use mathlib.Core.List.{List, [], _∷_}
 use Prim.Native.Nat.{ℕ, _+_, _-_, _*_}
 use lib.ListN.{getD, take, drop}
 use lib.Dec.{leb, eqb}
-use Rattle.figures.specs.Choice.{if_then_else_, ∣_∣}
-use Rattle.figures.specs.Sound.{every}
-use Rattle.figures.specs.Refusals.{notInForm}
+use Rattle.terms.specs.Choice.{if_then_else_, ∣_∣, every}
+use Rattle.terms.specs.Refusals.{notInForm}
 use Rattle.sheets.specs.Text.{placeOf}
 
 -- What the value of a line comes to: a number, or the number of a refusal.

@@ -1,15 +1,16 @@
 -- Reader, look-up and writer as total functions: of any bytes and buffers, the answer and all lent memory afterwards.
 -- A refused call's answer is its number with zeros elsewhere (the reader: also the line), and all lent memory stays.
-use mathlib.Core.Bool.{Bool, not}
+use mathlib.Core.Bool.{not}
 use mathlib.Core.List.{List, _++_}
 use Prim.Native.Nat.{ℕ}
 use lib.ListN.{drop}
 use lib.Dec.{ltb}
-use Rattle.figures.specs.Choice.{if_then_else_, ∣_∣}
-use Rattle.figures.specs.Sound.{knownPolicy}
-use Rattle.figures.specs.Refusals.{accepted, policyNotKnown, bufferTooShort, sheetTooLong, noSuchLine}
+use Rattle.terms.specs.Choice.{if_then_else_, ∣_∣}
+use Rattle.terms.specs.Limits.{mostPages, mostSheetBytes, leastResultBytes}
+use Rattle.terms.specs.Policies.{knownPolicy}
+use Rattle.terms.specs.Refusals.{accepted, policyNotKnown, bufferTooShort, sheetTooLong, noSuchLine}
 use Rattle.sheets.specs.Lines.{lines}
-use Rattle.sheets.specs.Bid.{Bid, Meaning, bid, refused, meaning}
+use Rattle.sheets.specs.Bid.{Meaning, bid, refused, meaning}
 use Rattle.sheets.specs.LookUp.{Place, between, nowhere, valueOf}
 use Rattle.sheets.specs.Result.{Outcome, resultSheet}
 
@@ -50,7 +51,7 @@ answer (refused number line) buffer = record {
 -- "Sheet reader: 6, 7, then lines from the top."
 unfoldable pub onRead : List ℕ → List ℕ → Read
 onRead sheet buffer =
-    if ltb ∣ buffer ∣ 1000 then answer (refused bufferTooShort 0) buffer
+    if ltb ∣ buffer ∣ mostPages then answer (refused bufferTooShort 0) buffer
     else answer (meaning sheet) buffer
 
 -- The look-up's number, and the stretch of the sheet that is its part: from 0 to 0 where it is refused.
@@ -66,7 +67,7 @@ foundAt nowhere = record { number = noSuchLine; start = 0; stop = 0 }
 -- "Look-up: 7, then 8 (no such closed line, no `=`, or line 0)."
 unfoldable pub onLookUp : List ℕ → ℕ → Found
 onLookUp sheet line =
-    if ltb 16000 ∣ sheet ∣ then record { number = sheetTooLong; start = 0; stop = 0 }
+    if ltb mostSheetBytes ∣ sheet ∣ then record { number = sheetTooLong; start = 0; stop = 0 }
     else foundAt (valueOf 0 line (lines sheet))
 
 pub record Written : Type 0 where
@@ -78,5 +79,5 @@ pub record Written : Type 0 where
 unfoldable pub onWrite : Outcome → List ℕ → Written
 onWrite r out =
     if not (knownPolicy (r .policy)) then record { number = policyNotKnown; count = 0; out = out }
-    else if ltb ∣ out ∣ 256 then record { number = bufferTooShort; count = 0; out = out }
+    else if ltb ∣ out ∣ leastResultBytes then record { number = bufferTooShort; count = 0; out = out }
     else record { number = accepted; count = ∣ resultSheet r ∣; out = over (resultSheet r) out }

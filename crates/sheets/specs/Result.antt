@@ -1,12 +1,10 @@
 -- What a result sheet says, and the two lines of a refused sheet.
 -- The writer takes any numbers; only the policy has to be known.
-use mathlib.Core.Bool.{Bool}
 use mathlib.Core.List.{List, [], _∷_, _++_}
 use Prim.Native.Nat.{ℕ, zero, suc, _+_, _/_, _%_}
-use Prim.Native.String.{String}
 use lib.Dec.{ltb, eqb}
-use Rattle.figures.specs.Choice.{if_then_else_}
-use Rattle.figures.specs.Sound.{car}
+use Rattle.terms.specs.Choice.{if_then_else_}
+use Rattle.terms.specs.Policies.{car}
 use Rattle.sheets.specs.Text.{bytes}
 use Rattle.sheets.specs.Number.{zeroDigit, comma}
 use Rattle.sheets.specs.Lines.{lineFeed}

@@ -6,8 +6,10 @@ use mathlib.Core.List.{List}
 use Prim.Native.Nat.{ℕ}
 use lib.ListN.{take, drop}
 use Rattle.figures.specs.Words.{used, unused}
-use Rattle.figures.specs.Sound.{allAtMost, flagWords, sound}
-use Rattle.laws.proofs.Encoding.{reads, shaped}
+use Rattle.terms.specs.Choice.{allAtMost}
+use Rattle.terms.proofs.Tests.{reads}
+use Rattle.figures.specs.Sound.{flagWords, sound}
+use Rattle.laws.proofs.Encoding.{shaped}
 use Rattle.soundness.proofs.Tests.{agree}
 use Rattle.soundness.specs.Orderly.{Orderly, sizesFit, Held, entriesSound}
 

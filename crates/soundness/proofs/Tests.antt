@@ -3,7 +3,7 @@
 use mathlib.Core.Path.{_≡_, refl, sym, _∙_}
 use mathlib.Core.Bool.{Bool, true, false, true≢false}
 use mathlib.Core.List.{[], _∷_}
-use Rattle.figures.specs.Sound.{every}
+use Rattle.terms.specs.Choice.{every}
 
 -- A test that cannot hold fails.
 pub fails : (b : Bool) → (b ≡ true → ⊥) → false ≡ b

@@ -6,11 +6,12 @@ use mathlib.Core.List.{List, [], _∷_, _++_}
 use Prim.Native.Nat.{ℕ, _+_, _*_, _≤_}
 use lib.ListN.{getD}
 use lib.Dec.{leb, ltb, eqb}
-use Rattle.figures.specs.Choice.{if_then_else_, ∣_∣}
+use Rattle.terms.specs.Choice.{if_then_else_, ∣_∣, every}
+use Rattle.terms.specs.Policies.{car, knownPolicy}
 use Rattle.figures.specs.Entry.{bits, differ}
 use Rattle.figures.specs.Directory.{unit, listed}
 use Rattle.figures.specs.Words.{encode, decode, size, nT1, nT2, nB1, nB2}
-use Rattle.figures.specs.Sound.{every, noneOf, car, carSound, cartSound, knownPolicy}
+use Rattle.figures.specs.Sound.{noneOf, carSound, cartSound}
 
 -- The words' number, policy and size are in order.
 pub record Orderly (w : List ℕ) : Type 0 where

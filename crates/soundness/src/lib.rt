@@ -5,6 +5,7 @@ ghost use Rattle.figures.specs.Sound.{carSound, cartSound, sound};
 ghost use Rattle.soundness.specs.Orderly.{Orderly, sizesFit, Held, entriesSound};
 use entries::lists;
 use entries::search;
+use terms::policies;
 
 // p and the four lengths, which may be any numbers.
 fn sizes_fit(dir: &[u32]) -> bool
@@ -80,7 +81,7 @@ fn entries_sound(dir: &[u32]) -> bool
     if search::count(dir, 8 + 2 * cached, remembered, 1) != 0 {
         return false;
     }
-    if dir[0] == 1 {
+    if dir[0] == policies::CAR {
         car_sound(dir)
     } else {
         cart_sound(dir)

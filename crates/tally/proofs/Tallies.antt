@@ -5,7 +5,7 @@ use mathlib.Core.Path.{_≡_, refl}
 use Prim.Native.Nat.{ℕ, _+_, _*_, _≤_, _<_}
 use lib.Dec.{eqb, leb}
 use native.Mathlib.Omega.{arith}
-use Rattle.figures.specs.Choice.{if_then_else_}
+use Rattle.terms.specs.Choice.{if_then_else_}
 use Rattle.figures.specs.Request.{Served}
 use Rattle.figures.specs.Run as Run
 use Rattle.tally.specs.Note.{defined, notedOf, Small}

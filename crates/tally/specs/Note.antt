@@ -2,7 +2,7 @@
 -- `defined` reads the code's struct as the tally of the definitions.
 use Prim.Native.Nat.{ℕ, _+_, _≤_}
 use lib.Dec.{eqb, leb}
-use Rattle.figures.specs.Choice.{if_then_else_}
+use Rattle.terms.specs.Choice.{if_then_else_}
 use Rattle.figures.specs.Run as Run
 use Rattle.tally.specs.declared.Tally.{Tally}
 

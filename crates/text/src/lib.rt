@@ -3,7 +3,7 @@
 ghost use mathlib.Core.Path.{_≡_};
 ghost use Prim.Native.Nat.{_≤_};
 ghost use lib.ListN.{length};
-ghost use Rattle.figures.specs.Choice.{same};
+ghost use Rattle.terms.specs.Choice.{same};
 ghost use Rattle.sheets.specs.Text.{placeOf, starts};
 
 // The place of the first such byte, the length where there is none.

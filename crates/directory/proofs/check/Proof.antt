@@ -6,10 +6,11 @@ use Prim.Native.Nat.{ℕ, _+_, _*_, _≤_}
 use native.Mathlib.Omega.{arith}
 use lib.ListN.{getD}
 use borrow.Author.Tests.{not-true, not-false}
-use Rattle.figures.specs.Choice.{∣_∣}
+use Rattle.terms.specs.Choice.{∣_∣}
+use Rattle.terms.specs.Limits.{knownSize}
+use Rattle.terms.specs.Policies.{knownPolicy}
+use Rattle.terms.proofs.Tests.{reads}
 use Rattle.figures.specs.Words.{size}
-use Rattle.figures.specs.Sound.{knownPolicy, knownSize}
-use Rattle.laws.proofs.Encoding.{reads}
 use Rattle.directory.proofs.Refused.{check-short, check-policy, check-size, check-length, check-unsound, check-sound}
 use borrow.Author.Needs.{needs}
 use Rattle.directory.proofs.check.Statement.{statement}

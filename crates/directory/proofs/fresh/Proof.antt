@@ -5,8 +5,9 @@ use Prim.Native.Nat.{_+_, _*_}
 use native.Mathlib.Omega.{arith}
 use lib.ListN.{replicate, length-set}
 use borrow.Author.Tests.{not-true, not-false}
-use Rattle.figures.specs.Choice.{∣_∣}
-use Rattle.figures.specs.Sound.{knownPolicy, knownSize}
+use Rattle.terms.specs.Choice.{∣_∣}
+use Rattle.terms.specs.Limits.{knownSize}
+use Rattle.terms.specs.Policies.{knownPolicy}
 use Rattle.directory.proofs.Refused.{fresh-policy, fresh-size, fresh-length, fresh-words, fresh-accepted}
 use borrow.Author.Needs.{needs}
 use Rattle.directory.proofs.fresh.Statement.{statement}

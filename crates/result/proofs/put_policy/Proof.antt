@@ -5,8 +5,8 @@ use mathlib.Core.Bool.{Bool}
 use mathlib.Core.List.{List}
 use Prim.Native.Nat.{ℕ}
 use borrow.Author.Tests.{eq-eqb, ne-eqb}
-use Rattle.figures.specs.Choice.{if_then_else_}
-use Rattle.figures.specs.Sound.{car}
+use Rattle.terms.specs.Choice.{if_then_else_}
+use Rattle.terms.specs.Policies.{car}
 use Rattle.sheets.specs.Text.{bytes}
 use Rattle.sheets.specs.Result.{policyName, lineOf}
 use Rattle.result.proofs.Putting.{put-as, room-as}

@@ -5,7 +5,7 @@ use Rattle.figures.specs.Entry.{long, total}
 use Rattle.figures.specs.Directory.{listed}
 use Rattle.figures.specs.Words.{decode}
 use Rattle.figures.specs.Sound.{carSound}
-use Rattle.laws.proofs.Encoding.{reads}
+use Rattle.terms.proofs.Tests.{reads}
 use Rattle.soundness.proofs.Tests.{fails, agree}
 use Rattle.soundness.proofs.Parts.{told, all-stand}
 use borrow.Author.Needs.{needs}

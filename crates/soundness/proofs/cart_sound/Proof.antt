@@ -6,7 +6,7 @@ use Rattle.figures.specs.Entry.{short, long, total}
 use Rattle.figures.specs.Words.{decode}
 use Rattle.figures.specs.Sound.{cartSound}
 use Rattle.laws.proofs.Lists.{total-append}
-use Rattle.laws.proofs.Encoding.{reads}
+use Rattle.terms.proofs.Tests.{reads}
 use Rattle.soundness.proofs.Tests.{fails, agree}
 use Rattle.soundness.proofs.Parts.{told, t2-stands, b1-stands, b2-stands, filters}
 use borrow.Author.Needs.{needs}

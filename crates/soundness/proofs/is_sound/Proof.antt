@@ -5,7 +5,7 @@ use mathlib.Core.List.{List}
 use Prim.Native.Nat.{ℕ}
 use native.Mathlib.Omega.{arith}
 use borrow.Author.Tests.{not-true, not-false}
-use Rattle.laws.proofs.Encoding.{reads}
+use Rattle.terms.proofs.Tests.{reads}
 use Rattle.soundness.specs.Orderly.{sizesFit}
 use Rattle.soundness.proofs.Tests.{denied}
 use Rattle.soundness.proofs.Rules.{flagsKnown, restZero, sound-sizes, sound-flags, sound-zeros, held, sound-entries}

@@ -2,7 +2,7 @@
 use mathlib.Core.Path.{refl, sym}
 use native.Mathlib.Omega.{arith}
 use borrow.Author.Tests.{eqb-true}
-use Rattle.laws.proofs.Encoding.{reads}
+use Rattle.terms.proofs.Tests.{reads}
 use Rattle.soundness.proofs.Tests.{fails, agree}
 use borrow.Author.Needs.{needs}
 use Rattle.soundness.proofs.sizes_fit.Statement.{statement}

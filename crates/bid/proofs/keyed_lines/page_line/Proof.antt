@@ -5,8 +5,8 @@ use mathlib.Core.List.{List}
 use Prim.Native.Nat.{ℕ}
 use borrow.Author.Needs.{needs}
 use borrow.Author.Tests.{le-ltb, lt-ltb}
-use Rattle.figures.specs.Choice.{if_then_else_}
-use Rattle.figures.specs.Refusals.{tooManyPages}
+use Rattle.terms.specs.Choice.{if_then_else_}
+use Rattle.terms.specs.Refusals.{tooManyPages}
 use Rattle.sheets.specs.Number.{Value, wrong, whole}
 use Rattle.sheets.specs.Bid.{pageLine}
 use Rattle.numbers.specs.Meant.{meant}

@@ -4,8 +4,8 @@ use mathlib.Core.Bool.{Bool}
 use mathlib.Core.List.{List, []}
 use Prim.Native.Nat.{ℕ}
 use borrow.Author.Needs.{needs}
-use Rattle.figures.specs.Choice.{if_then_else_, same}
-use Rattle.figures.specs.Sound.{car, cart}
+use Rattle.terms.specs.Choice.{if_then_else_, same}
+use Rattle.terms.specs.Policies.{car, cart}
 use Rattle.sheets.specs.Text.{bytes}
 use Rattle.sheets.specs.Bid.{PolicyValue, named, blank, unknown, policyValue}
 use Rattle.sheets.proofs.Text.{same-starts, lengths-differ}

@@ -4,7 +4,7 @@ use mathlib.Core.Logic.{inl, inr}
 use Prim.Native.Nat.{ℕ, _≤_, _<_}
 use borrow.Author.Needs.{needs}
 use borrow.Author.Tests.{le-leb, lt-leb, ltb-true, ltb-false}
-use Rattle.figures.specs.Refusals.{sizeNotKnown}
+use Rattle.terms.specs.Refusals.{sizeNotKnown}
 use Rattle.sheets.specs.Number.{means, wrong}
 use Rattle.sheets.specs.Bid.{inRange, sizeLine}
 use Rattle.numbers.specs.Meant.{meant}

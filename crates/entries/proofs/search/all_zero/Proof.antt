@@ -3,7 +3,7 @@ use mathlib.Core.Path.{_≡_, refl, sym, _∙_}
 use Prim.Native.Nat.{_≤_, _-_}
 use native.Mathlib.Omega.{arith}
 use lib.ListN.{length, drop}
-use Rattle.figures.specs.Sound.{allAtMost}
+use Rattle.terms.specs.Choice.{allAtMost}
 use Rattle.entries.proofs.Bounds.{at-most-not, at-most-later, at-most-end}
 use borrow.Author.Needs.{needs}
 use Rattle.entries.proofs.search.all_zero.Statement.{statement}

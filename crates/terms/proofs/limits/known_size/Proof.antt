@@ -1,7 +1,7 @@
 -- The answer is the test: by whether the size is at least 1.
 use borrow.Author.Tests.{le-leb, lt-leb}
-use Rattle.directory.proofs.known_size.Statement.{statement}
-use Rattle.directory.proofs.known_size.Tie as tie
+use Rattle.terms.proofs.limits.known_size.Statement.{statement}
+use Rattle.terms.proofs.limits.known_size.Tie as tie
 
 returns : tie.Need-returns
 returns c = rw (le-leb 1 (c .before .args .c) (c .if1 .taken))

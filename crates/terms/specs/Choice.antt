@@ -1,10 +1,10 @@
--- The words that the rules are written with: a choice by a test, the size of a list, two lists compared.
--- Nothing here is about caches.
+-- The words that rules are written with: a choice by a test, all of some tests, the size of a list, two lists compared.
+-- Nothing here is about caches or sheets.
 use mathlib.Core.Bool.{Bool, true, false}
 use mathlib.Core.List.{List, [], _∷_}
 use Prim.Native.Nat.{ℕ}
 use lib.ListN.{length}
-use lib.Dec.{eqb}
+use lib.Dec.{leb, eqb}
 
 infix 10 if_then_else_
 infix 60 ∣_∣
@@ -14,6 +14,16 @@ if false then a else b = b
 
 abbrev pub ∣_∣ {ℓ} : {A : Type ℓ} → List A → ℕ
 ∣ l ∣ = length l
+
+-- All tests of the list hold.
+abbrev pub every : List Bool → Bool
+every [] = true
+every (b ∷ l) = if b then every l else false
+
+-- All numbers of the list are at most n.
+abbrev pub allAtMost : ℕ → List ℕ → Bool
+allAtMost n [] = true
+allAtMost n (x ∷ w) = if leb x n then allAtMost n w else false
 
 abbrev pub same : List ℕ → List ℕ → Bool
 same [] [] = true

@@ -1,7 +1,7 @@
 -- The answer is the test: by whether the policy is 1.
 use borrow.Author.Tests.{eq-eqb, ne-eqb}
-use Rattle.directory.proofs.known_policy.Statement.{statement}
-use Rattle.directory.proofs.known_policy.Tie as tie
+use Rattle.terms.proofs.policies.known_policy.Statement.{statement}
+use Rattle.terms.proofs.policies.known_policy.Tie as tie
 
 returns : tie.Need-returns
 returns c = rw (eq-eqb (c .before .args .policy) 1 (c .if1 .taken))

@@ -1,0 +1,2 @@
+-- Laws over any engine: each takes as a parameter how memory shows a directory.
+pub mod Placed

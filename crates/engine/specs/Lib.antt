@@ -1,0 +1,2 @@
+-- What an engine's memory shows of the values of figures, and what its answers tell.
+pub mod Shown

@@ -1,0 +1,4 @@
+-- How the words of the trade are argued with: choices by a test, tests read as facts, the policies one after another.
+pub mod Choice
+pub mod Tests
+pub mod ByPolicy

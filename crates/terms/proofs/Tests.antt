@@ -1,0 +1,32 @@
+-- Tests read as facts: `simp reads` turns a list of tests that all hold into a product of facts, and back.
+-- A test by `||` is not read; split it by cases.
+use mathlib.Core.Path.{_≡_, refl, sym}
+use mathlib.Core.Bool.{Bool, true, false, false≢true, and-eq-true-iff}
+use mathlib.Core.Logic.{_↔_}
+use Prim.Native.Nat.{ℕ, _≤_, _<_}
+use lib.Dec.{eqb, leb, ltb}
+use borrow.Author.Tests.{ltb-true, lt-ltb, leb-true, le-leb, eqb-true, eq-eqb}
+use Rattle.terms.specs.Choice.{if_then_else_}
+
+pub leb-iff : (a b : ℕ) → (leb a b ≡ true) ↔ (a ≤ b)
+leb-iff a b = (leb-true a b, le-leb a b)
+
+pub ltb-iff : (a b : ℕ) → (ltb a b ≡ true) ↔ (a < b)
+ltb-iff a b = (ltb-true a b, lt-ltb a b)
+
+pub eqb-iff : (a b : ℕ) → (eqb a b ≡ true) ↔ (a ≡ b)
+eqb-iff a b = (eqb-true a b, eq-eqb a b)
+
+pub both-iff : (a b : Bool) → ((if a then b else false) ≡ true) ↔ ((a ≡ true) × (b ≡ true))
+both-iff true b = (λ h. (refl, h), λ h. h .1)
+both-iff false b = (λ h. absurd (false≢true h), λ h. h .0)
+
+pub when-iff : (a b : Bool) → ((if a then b else true) ≡ true) ↔ (a ≡ true → b ≡ true)
+when-iff true b = (λ h i. h, λ h. h refl)
+when-iff false b = (λ h i. absurd (false≢true i), λ h. refl)
+
+pub unless-iff : (a b : Bool) → ((if a then false else b) ≡ true) ↔ ((a ≡ false) × (b ≡ true))
+unless-iff true b = (λ h. absurd (false≢true h), λ h. sym (h .0))
+unless-iff false b = (λ h. (refl, h), λ h. h .1)
+
+pub ruleset reads = (both-iff, when-iff, unless-iff, and-eq-true-iff, leb-iff, ltb-iff, eqb-iff)
