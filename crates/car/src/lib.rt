@@ -13,6 +13,7 @@ ghost use Rattle.entries.specs.Leaves.{Makes};
 ghost use Rattle.entries.specs.Answers.{Tells};
 ghost use Rattle.car.specs.Turning.{Full, Turning, EndsFrom, EvictedAs, Opened, PlacedAs};
 ghost use Rattle.car.specs.Turning.{raisedTarget, loweredTarget};
+use entries::header;
 use entries::lists;
 use entries::numbers;
 use entries::search;
@@ -30,12 +31,12 @@ fn choose(dir: &mut [u32], moves: u32) -> Evicted
     requires { ⌜ Turning (now dir) moves ⌝ }
     ensures { λ r. ⌜ EndsFrom moves (now (dir .entry)) (r .page) (r .list) (r .moves) (now (dir .exit)) ⌝ }
 {
-    let p = numbers::greatest(entries::UNIT, dir[2]);
-    let n = entries::UNIT * dir[4];
+    let p = numbers::greatest(entries::UNIT, dir[header::P]);
+    let n = entries::UNIT * dir[header::T1_LENGTH];
     if p <= n {
-        look(dir, 0, moves)
+        look(dir, lists::T1, moves)
     } else {
-        look(dir, 1, moves)
+        look(dir, lists::T2, moves)
     }
 }
 
@@ -50,7 +51,7 @@ fn look(dir: &mut [u32], i: usize, moves: u32) -> Evicted
     let page = dir[at];
     let f = dir[at + 1];
     if f % 2 == 1 {
-        lists::move_head(dir, i, 1, f - 1);
+        lists::move_head(dir, i, lists::T2, f - 1);
         choose(dir, moves + 1)
     } else {
         lists::move_head(dir, i, i + 2, f);
@@ -76,15 +77,15 @@ fn trim(dir: &mut [u32])
     requires { ⌜ Opened (now dir) ⌝ }
     ensures { λ _. ⌜ Makes Car.trim (now (dir .entry)) (now (dir .exit)) ⌝ }
 {
-    let c = dir[1];
-    let n1 = dir[4];
-    let n2 = dir[5];
-    let k1 = dir[6];
-    let k2 = dir[7];
+    let c = dir[header::SIZE];
+    let n1 = dir[header::T1_LENGTH];
+    let n2 = dir[header::T2_LENGTH];
+    let k1 = dir[header::B1_LENGTH];
+    let k2 = dir[header::B2_LENGTH];
     if n1 + k1 == c {
-        lists::drop_head(dir, 2);
+        lists::drop_head(dir, lists::B1);
     } else if n1 + n2 + (k1 + k2) == 2 * c {
-        lists::drop_head(dir, 3);
+        lists::drop_head(dir, lists::B2);
     }
 }
 
@@ -94,10 +95,13 @@ fn raised_target(dir: &[u32]) -> u32
     requires { ⌜ (8 ≤ length (now dir)) × (1 ≤ nB1 (now dir)) ⌝ }
     ensures { λ r. ⌜ r ≡ raisedTarget (now (dir .entry)) ⌝ }
 {
-    let step = numbers::quotient(entries::UNIT * dir[7], dir[6]);
+    let step = numbers::quotient(
+        entries::UNIT * dir[header::B2_LENGTH],
+        dir[header::B1_LENGTH],
+    );
     numbers::least(
-        dir[2] + numbers::greatest(entries::UNIT, step),
-        entries::UNIT * dir[1],
+        dir[header::P] + numbers::greatest(entries::UNIT, step),
+        entries::UNIT * dir[header::SIZE],
     )
 }
 
@@ -107,9 +111,12 @@ fn lowered_target(dir: &[u32]) -> u32
     requires { ⌜ (8 ≤ length (now dir)) × (1 ≤ nB2 (now dir)) ⌝ }
     ensures { λ r. ⌜ r ≡ loweredTarget (now (dir .entry)) ⌝ }
 {
-    let step = numbers::quotient(entries::UNIT * dir[6], dir[7]);
+    let step = numbers::quotient(
+        entries::UNIT * dir[header::B1_LENGTH],
+        dir[header::B2_LENGTH],
+    );
     let step = numbers::greatest(entries::UNIT, step);
-    let p = dir[2];
+    let p = dir[header::P];
     if step < p { p - step } else { 0 }
 }
 
@@ -119,22 +126,22 @@ fn place(dir: &mut [u32], page: u32) -> u32
     requires { ⌜ Opened (now dir) ⌝ }
     ensures { λ r. ⌜ PlacedAs page (now (dir .entry)) r (now (dir .exit)) ⌝ }
 {
-    let k1 = lists::wide(dir[6]);
-    let k2 = lists::wide(dir[7]);
-    let b1 = lists::start_of(dir, 2);
+    let k1 = lists::wide(dir[header::B1_LENGTH]);
+    let k2 = lists::wide(dir[header::B2_LENGTH]);
+    let b1 = lists::start_of(dir, lists::B1);
     let at = search::find(dir, b1, k1, page);
     if at < k1 {
         let p = raised_target(dir);
-        lists::come_back(dir, 2, at, 1, page, 0);
-        dir[2] = p;
+        lists::come_back(dir, lists::B1, at, lists::T2, page, 0);
+        dir[header::P] = p;
         return 3;
     }
-    let b2 = lists::start_of(dir, 3);
+    let b2 = lists::start_of(dir, lists::B2);
     let at = search::find(dir, b2, k2, page);
     if at < k2 {
         let p = lowered_target(dir);
-        lists::come_back(dir, 3, at, 1, page, 0);
-        dir[2] = p;
+        lists::come_back(dir, lists::B2, at, lists::T2, page, 0);
+        dir[header::P] = p;
         return 4;
     }
     trim(dir);

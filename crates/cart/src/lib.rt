@@ -12,6 +12,7 @@ ghost use Rattle.entries.specs.Leaves.{Makes};
 ghost use Rattle.entries.specs.Answers.{Tells};
 ghost use Rattle.cart.specs.Passing.{Full, PassingWith, Looked, PassEnds, DemotedAs, EvictedAs, Raisable};
 ghost use Rattle.cart.specs.Passing.{Opened, PlacedAs, headFlags, oldestList, raisedTarget, loweredTarget};
+use entries::header;
 use entries::lists;
 use entries::numbers;
 use entries::search;
@@ -42,7 +43,7 @@ fn head_flags(dir: &[u32], i: usize) -> u32
     requires { ⌜ i ≤ 1 ⌝ }
     ensures { λ r. ⌜ ((d : Directory) → encode d ≡ now (dir .entry) → r ≡ headFlags (listOf (nameOf i) d)) ⌝ }
 {
-    let n = dir[4 + i];
+    let n = dir[header::T1_LENGTH + i];
     if n == 0 {
         return 0;
     }
@@ -56,13 +57,13 @@ fn raise(dir: &mut [u32], short: ShortCount)
     requires { ⌜ Raisable (now dir) (short .0) ⌝ }
     ensures { λ _. ⌜ Makes (Cart.raise (short .0)) (now (dir .entry)) (now (dir .exit)) ⌝ }
 {
-    let c = dir[1];
-    let n1 = dir[4];
-    let n2 = dir[5];
-    let k2 = dir[7];
+    let c = dir[header::SIZE];
+    let n1 = dir[header::T1_LENGTH];
+    let n2 = dir[header::T2_LENGTH];
+    let k2 = dir[header::B2_LENGTH];
     let short = short.0;
     if c <= n2 + k2 + n1 - short {
-        dir[3] = numbers::least(dir[3] + 1, 2 * c - n1);
+        dir[header::Q] = numbers::least(dir[header::Q] + 1, 2 * c - n1);
     }
 }
 
@@ -71,9 +72,9 @@ fn lower(dir: &mut [u32])
     requires { ⌜ (8 ≤ length (now dir)) × (nT1 (now dir) ≤ getD (now dir) 1 0) ⌝ }
     ensures { λ _. ⌜ Makes Cart.lower (now (dir .entry)) (now (dir .exit)) ⌝ }
 {
-    let q = dir[3];
+    let q = dir[header::Q];
     let less = if q == 0 { 0 } else { q - 1 };
-    dir[3] = numbers::greatest(less, dir[1] - dir[4]);
+    dir[header::Q] = numbers::greatest(less, dir[header::SIZE] - dir[header::T1_LENGTH]);
 }
 
 // Lines 23 to 26, the first pass.
@@ -85,12 +86,12 @@ fn first_pass(dir: &mut [u32], kept: Kept) -> Kept
     let short = kept.short;
     let long = kept.long;
     let mut moves = kept.moves;
-    let mut f = head_flags(dir, 1);
+    let mut f = head_flags(dir, lists::T2);
     while f % 2 == 1 {
         lists::t2_head_to_t1(dir);
         raise(dir, short);
         moves += 1;
-        f = head_flags(dir, 1);
+        f = head_flags(dir, lists::T2);
     }
     Kept { short, long, moves }
 }
@@ -100,8 +101,9 @@ fn becomes_long(dir: &[u32]) -> bool
     requires { ⌜ (8 ≤ length (now dir)) × (getD (now dir) 2 0 ≤ unit * 1024) × (nT1 (now dir) ≤ 2048) × (nB1 (now dir) ≤ 2048) ⌝ }
     ensures { λ r. ⌜ ((d : Directory) → encode d ≡ now (dir .entry) → r ≡ Cart.becomesLong d) ⌝ }
 {
-    let p = dir[2] + entries::UNIT;
-    numbers::least(p, entries::UNIT * dir[6]) <= entries::UNIT * dir[4]
+    let p = dir[header::P] + entries::UNIT;
+    numbers::least(p, entries::UNIT * dir[header::B1_LENGTH])
+        <= entries::UNIT * dir[header::T1_LENGTH]
 }
 
 // Lines 28 to 33: T1's head, whose flags are f and which is L or has its bit set.
@@ -116,7 +118,7 @@ fn turn(dir: &mut [u32], f: u32, kept: Kept) -> Kept
     let moves = kept.moves + 1;
     if f == 1 {
         if becomes_long(dir) {
-            lists::move_head(dir, 0, 0, 2);
+            lists::move_head(dir, lists::T1, lists::T1, 2);
             return Kept {
                 short: ShortCount(short.0 - 1),
                 long: LongCount(long.0 + 1),
@@ -125,9 +127,9 @@ fn turn(dir: &mut [u32], f: u32, kept: Kept) -> Kept
         }
     }
     if f % 2 == 1 {
-        lists::move_head(dir, 0, 0, f - 1);
+        lists::move_head(dir, lists::T1, lists::T1, f - 1);
     } else {
-        lists::move_head(dir, 0, 1, f);
+        lists::move_head(dir, lists::T1, lists::T2, f);
         lower(dir);
     }
     Kept { short, long, moves }
@@ -140,10 +142,10 @@ fn second_pass(dir: &mut [u32], kept: Kept) -> Kept
     ensures { λ r. ⌜ PassingWith (now (dir .exit)) r × (headFlags (decode (now (dir .exit)) .t1) ≡ 0) × PassEnds Cart.secondLook (now (dir .entry)) kept (now (dir .exit)) r ⌝ }
 {
     let mut now = kept;
-    let mut f = head_flags(dir, 0);
+    let mut f = head_flags(dir, lists::T1);
     while f != 0 {
         now = turn(dir, f, now);
-        f = head_flags(dir, 0);
+        f = head_flags(dir, lists::T1);
     }
     now
 }
@@ -158,11 +160,11 @@ fn demote(dir: &mut [u32], kept: Kept) -> Evicted
     let short = kept.short;
     let long = kept.long;
     let moves = kept.moves + 1;
-    let p = numbers::greatest(entries::UNIT, dir[2]);
-    let n = entries::UNIT * dir[4];
+    let p = numbers::greatest(entries::UNIT, dir[header::P]);
+    let n = entries::UNIT * dir[header::T1_LENGTH];
     if p <= n {
-        let page = dir[8];
-        lists::move_head(dir, 0, 2, 0);
+        let page = dir[header::ENTRIES];
+        lists::move_head(dir, lists::T1, lists::B1, 0);
         let kept = Kept {
             short: ShortCount(short.0 - 1),
             long,
@@ -174,10 +176,10 @@ fn demote(dir: &mut [u32], kept: Kept) -> Evicted
             kept,
         }
     } else {
-        let at = lists::start_of(dir, 1);
+        let at = lists::start_of(dir, lists::T2);
         let page = dir[at];
         let f = dir[at + 1];
-        lists::move_head(dir, 1, 3, f);
+        lists::move_head(dir, lists::T2, lists::B2, f);
         let kept = Kept {
             short,
             long: LongCount(long.0 - 1),
@@ -196,8 +198,8 @@ pub fn evict(dir: &mut [u32]) -> Evicted
     requires { ⌜ Full (now dir) ⌝ }
     ensures { λ r. ⌜ EvictedAs (Cart.evict (decode (now (dir .entry)))) (now (dir .exit)) r ⌝ }
 {
-    let n = dir[4] + dir[5];
-    let longs = search::count(dir, 8, lists::wide(n), 2);
+    let n = dir[header::T1_LENGTH] + dir[header::T2_LENGTH];
+    let longs = search::count(dir, header::ENTRIES, lists::wide(n), 2);
     let kept = Kept {
         short: ShortCount(n - longs),
         long: LongCount(longs),
@@ -208,14 +210,14 @@ pub fn evict(dir: &mut [u32]) -> Evicted
     demote(dir, kept)
 }
 
-// The history that trim takes from: 2 is B1, 3 is B2.
+// The history that trim takes from.
 fn oldest(q: u32, k1: u32, k2: u32) -> usize
     ensures { λ r. ⌜ r ≡ oldestList q k1 k2 ⌝ }
 {
     if q < k1 {
-        return 2;
+        return lists::B1;
     }
-    if k2 == 0 { 2 } else { 3 }
+    if k2 == 0 { lists::B1 } else { lists::B2 }
 }
 
 // Lines 6 to 10, for a page in neither history.
@@ -224,11 +226,11 @@ fn trim(dir: &mut [u32])
     requires { ⌜ (getD (now dir) 1 0 ≤ 1024) × (nT1 (now dir) + nT2 (now dir) + 1 ≤ getD (now dir) 1 0) × (nB1 (now dir) + nB2 (now dir) ≤ getD (now dir) 1 0 + 1) ⌝ }
     ensures { λ _. ⌜ Makes Cart.trim (now (dir .entry)) (now (dir .exit)) ⌝ }
 {
-    let c = dir[1];
-    let k1 = dir[6];
-    let k2 = dir[7];
+    let c = dir[header::SIZE];
+    let k1 = dir[header::B1_LENGTH];
+    let k2 = dir[header::B2_LENGTH];
     if k1 + k2 == c + 1 {
-        let b = oldest(dir[3], k1, k2);
+        let b = oldest(dir[header::Q], k1, k2);
         lists::drop_head(dir, b);
     }
 }
@@ -238,10 +240,10 @@ fn raised_target(dir: &[u32], short: ShortCount) -> u32
     requires { ⌜ (8 ≤ length (now dir)) × (1 ≤ nB1 (now dir)) × (short .0 ≤ 1024) × (getD (now dir) 1 0 ≤ 1024) × (getD (now dir) 2 0 ≤ unit * 1024) ⌝ }
     ensures { λ r. ⌜ r ≡ raisedTarget (short .0) (now (dir .entry)) ⌝ }
 {
-    let step = numbers::quotient(entries::UNIT * short.0, dir[6]);
+    let step = numbers::quotient(entries::UNIT * short.0, dir[header::B1_LENGTH]);
     numbers::least(
-        dir[2] + numbers::greatest(entries::UNIT, step),
-        entries::UNIT * dir[1],
+        dir[header::P] + numbers::greatest(entries::UNIT, step),
+        entries::UNIT * dir[header::SIZE],
     )
 }
 
@@ -250,9 +252,9 @@ fn lowered_target(dir: &[u32], long: LongCount) -> u32
     requires { ⌜ (8 ≤ length (now dir)) × (1 ≤ nB2 (now dir)) × (long .0 ≤ 1024) ⌝ }
     ensures { λ r. ⌜ r ≡ loweredTarget (long .0) (now (dir .entry)) ⌝ }
 {
-    let step = numbers::quotient(entries::UNIT * long.0, dir[7]);
+    let step = numbers::quotient(entries::UNIT * long.0, dir[header::B2_LENGTH]);
     let step = numbers::greatest(entries::UNIT, step);
-    let p = dir[2];
+    let p = dir[header::P];
     if step < p { p - step } else { 0 }
 }
 
@@ -262,22 +264,22 @@ fn place(dir: &mut [u32], page: u32, short: ShortCount, long: LongCount) -> u32
     requires { ⌜ Opened (now dir) (short .0) (long .0) ⌝ }
     ensures { λ r. ⌜ PlacedAs page (short .0) (long .0) (now (dir .entry)) r (now (dir .exit)) ⌝ }
 {
-    let k1 = lists::wide(dir[6]);
-    let k2 = lists::wide(dir[7]);
-    let b1 = lists::start_of(dir, 2);
+    let k1 = lists::wide(dir[header::B1_LENGTH]);
+    let k2 = lists::wide(dir[header::B2_LENGTH]);
+    let b1 = lists::start_of(dir, lists::B1);
     let at = search::find(dir, b1, k1, page);
     if at < k1 {
         let p = raised_target(dir, short);
-        lists::come_back(dir, 2, at, 0, page, 2);
-        dir[2] = p;
+        lists::come_back(dir, lists::B1, at, lists::T1, page, 2);
+        dir[header::P] = p;
         return 3;
     }
-    let b2 = lists::start_of(dir, 3);
+    let b2 = lists::start_of(dir, lists::B2);
     let at = search::find(dir, b2, k2, page);
     if at < k2 {
         let p = lowered_target(dir, long);
-        lists::come_back(dir, 3, at, 0, page, 2);
-        dir[2] = p;
+        lists::come_back(dir, lists::B2, at, lists::T1, page, 2);
+        dir[header::P] = p;
         raise(dir, short);
         return 4;
     }

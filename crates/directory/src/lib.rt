@@ -11,6 +11,7 @@ ghost use Rattle.entries.specs.Answers.{Tells};
 ghost use Rattle.tally.specs.Note.{defined, Small};
 ghost use Rattle.directory.specs.Promises.{Freshened, Checked, Requested, Replayed};
 ghost use Rattle.directory.specs.Ready.{Ready, Stepped, RunThrough};
+use entries::header;
 use entries::lists;
 use entries::search;
 use terms::limits;
@@ -46,12 +47,12 @@ pub fn fresh(policy: u32, c: u32, dir: &mut [u32]) -> u32
     if !limits::known_size(c) {
         return refusals::SIZE_NOT_KNOWN;
     }
-    if dir.len() != 8 + 4 * lists::wide(c) {
+    if dir.len() != header::ENTRIES + 4 * lists::wide(c) {
         return refusals::WRONG_LENGTH;
     }
     clear(dir);
-    dir[0] = policy;
-    dir[1] = c;
+    dir[header::POLICY] = policy;
+    dir[header::SIZE] = c;
     refusals::ACCEPTED
 }
 
@@ -59,16 +60,16 @@ pub fn fresh(policy: u32, c: u32, dir: &mut [u32]) -> u32
 pub fn check(dir: &[u32]) -> u32
     ensures { λ r. ⌜ Checked (now (dir .entry)) r ⌝ }
 {
-    if dir.len() < 8 {
+    if dir.len() < header::ENTRIES {
         return refusals::WRONG_LENGTH;
     }
-    if !policies::known_policy(dir[0]) {
+    if !policies::known_policy(dir[header::POLICY]) {
         return refusals::POLICY_NOT_KNOWN;
     }
-    if !limits::known_size(dir[1]) {
+    if !limits::known_size(dir[header::SIZE]) {
         return refusals::SIZE_NOT_KNOWN;
     }
-    if dir.len() != 8 + 4 * lists::wide(dir[1]) {
+    if dir.len() != header::ENTRIES + 4 * lists::wide(dir[header::SIZE]) {
         return refusals::WRONG_LENGTH;
     }
     if !soundness::is_sound(dir) {
@@ -82,9 +83,9 @@ fn serve(dir: &mut [u32], page: u32) -> entries::Served
     requires { ⌜ Ready (now dir) ⌝ }
     ensures { λ r. ⌜ Tells (request page (decode (now (dir .entry)))) (r .kind) (r .page) (r .list) (r .moves) (now (dir .exit)) × Ready (now (dir .exit)) ⌝ }
 {
-    let n1 = lists::wide(dir[4]);
-    let n2 = lists::wide(dir[5]);
-    let at = search::find(dir, 8, n1 + n2, page);
+    let n1 = lists::wide(dir[header::T1_LENGTH]);
+    let n2 = lists::wide(dir[header::T2_LENGTH]);
+    let at = search::find(dir, header::ENTRIES, n1 + n2, page);
     if at < n1 + n2 {
         lists::mark(dir, at);
         return entries::Served {
@@ -94,7 +95,7 @@ fn serve(dir: &mut [u32], page: u32) -> entries::Served
             moves: 0,
         };
     }
-    if n1 + n2 < lists::wide(dir[1]) {
+    if n1 + n2 < lists::wide(dir[header::SIZE]) {
         lists::place_new(dir, page);
         return entries::Served {
             kind: 1,
@@ -103,7 +104,7 @@ fn serve(dir: &mut [u32], page: u32) -> entries::Served
             moves: 0,
         };
     }
-    if dir[0] == policies::CAR {
+    if dir[header::POLICY] == policies::CAR {
         car::miss(dir, page)
     } else {
         cart::miss(dir, page)

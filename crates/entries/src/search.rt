@@ -7,6 +7,7 @@ ghost use Rattle.figures.specs.Entry.{differ};
 ghost use Rattle.terms.specs.Choice.{allAtMost};
 ghost use Rattle.figures.specs.Sound.{flagWords};
 ghost use Rattle.entries.specs.Leaves.{OfEntries, FoundAt, Counted};
+use crate::header;
 
 // The place of the first of the n entries from word a on that is for page, or n.
 pub fn find(dir: &[u32], a: usize, n: usize, page: u32) -> usize
@@ -44,7 +45,7 @@ pub fn flags_known(dir: &[u32], n: usize) -> bool
 {
     let mut i = 0;
     while i < n {
-        if 3 < dir[8 + 2 * i + 1] {
+        if 3 < dir[header::ENTRIES + 2 * i + 1] {
             return false;
         }
         i += 1;
@@ -75,8 +76,8 @@ pub fn pages_differ(dir: &[u32], n: usize) -> bool
     let mut i = 0;
     while i < n {
         let rest = n - i - 1;
-        let page = dir[8 + 2 * i];
-        let at = find(dir, 8 + 2 * i + 2, rest, page);
+        let page = dir[header::ENTRIES + 2 * i];
+        let at = find(dir, header::ENTRIES + 2 * i + 2, rest, page);
         if at < rest {
             return false;
         }

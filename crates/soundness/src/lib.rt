@@ -3,6 +3,7 @@
 ghost use mathlib.Core.Path.{_≡_};
 ghost use Rattle.figures.specs.Sound.{carSound, cartSound, sound};
 ghost use Rattle.soundness.specs.Orderly.{Orderly, sizesFit, Held, entriesSound};
+use entries::header;
 use entries::lists;
 use entries::search;
 use terms::policies;
@@ -12,10 +13,10 @@ fn sizes_fit(dir: &[u32]) -> bool
     requires { ⌜ Orderly (now dir) ⌝ }
     ensures { λ r. ⌜ r ≡ sizesFit (now (dir .entry)) ⌝ }
 {
-    let c = lists::wide(dir[1]);
-    let cached = lists::wide(dir[4]) + lists::wide(dir[5]);
-    let remembered = lists::wide(dir[6]) + lists::wide(dir[7]);
-    if entries::UNIT * dir[1] < dir[2] {
+    let c = lists::wide(dir[header::SIZE]);
+    let cached = lists::wide(dir[header::T1_LENGTH]) + lists::wide(dir[header::T2_LENGTH]);
+    let remembered = lists::wide(dir[header::B1_LENGTH]) + lists::wide(dir[header::B2_LENGTH]);
+    if entries::UNIT * dir[header::SIZE] < dir[header::P] {
         return false;
     }
     if c < cached {
@@ -35,16 +36,16 @@ fn car_sound(dir: &[u32]) -> bool
     requires { ⌜ Held (now dir) ⌝ }
     ensures { λ r. ⌜ r ≡ carSound (now (dir .entry)) ⌝ }
 {
-    let n1 = lists::wide(dir[4]);
-    let k1 = lists::wide(dir[6]);
-    let all = n1 + lists::wide(dir[5]) + (k1 + lists::wide(dir[7]));
-    if dir[3] != 0 {
+    let n1 = lists::wide(dir[header::T1_LENGTH]);
+    let k1 = lists::wide(dir[header::B1_LENGTH]);
+    let all = n1 + lists::wide(dir[header::T2_LENGTH]) + (k1 + lists::wide(dir[header::B2_LENGTH]));
+    if dir[header::Q] != 0 {
         return false;
     }
-    if search::count(dir, 8, all, 2) != 0 {
+    if search::count(dir, header::ENTRIES, all, 2) != 0 {
         return false;
     }
-    n1 + k1 <= lists::wide(dir[1])
+    n1 + k1 <= lists::wide(dir[header::SIZE])
 }
 
 // CART's own rules.
@@ -52,20 +53,20 @@ fn cart_sound(dir: &[u32]) -> bool
     requires { ⌜ Held (now dir) ⌝ }
     ensures { λ r. ⌜ r ≡ cartSound (now (dir .entry)) ⌝ }
 {
-    let n1 = lists::wide(dir[4]);
-    let n2 = lists::wide(dir[5]);
-    let k1 = lists::wide(dir[6]);
-    let k2 = lists::wide(dir[7]);
-    if 2 * dir[1] < dir[3] {
+    let n1 = lists::wide(dir[header::T1_LENGTH]);
+    let n2 = lists::wide(dir[header::T2_LENGTH]);
+    let k1 = lists::wide(dir[header::B1_LENGTH]);
+    let k2 = lists::wide(dir[header::B2_LENGTH]);
+    if 2 * dir[header::SIZE] < dir[header::Q] {
         return false;
     }
-    if search::count(dir, 8 + 2 * n1, n2, 2) != dir[5] {
+    if search::count(dir, header::ENTRIES + 2 * n1, n2, 2) != dir[header::T2_LENGTH] {
         return false;
     }
-    if search::count(dir, 8 + 2 * (n1 + n2 + k1), k2, 2) != dir[7] {
+    if search::count(dir, header::ENTRIES + 2 * (n1 + n2 + k1), k2, 2) != dir[header::B2_LENGTH] {
         return false;
     }
-    search::count(dir, 8 + 2 * (n1 + n2), k1, 2) == 0
+    search::count(dir, header::ENTRIES + 2 * (n1 + n2), k1, 2) == 0
 }
 
 // What the entries say, once flags are known to be flags.
@@ -73,15 +74,15 @@ fn entries_sound(dir: &[u32]) -> bool
     requires { ⌜ Held (now dir) ⌝ }
     ensures { λ r. ⌜ r ≡ entriesSound (now (dir .entry)) ⌝ }
 {
-    let cached = lists::wide(dir[4]) + lists::wide(dir[5]);
-    let remembered = lists::wide(dir[6]) + lists::wide(dir[7]);
+    let cached = lists::wide(dir[header::T1_LENGTH]) + lists::wide(dir[header::T2_LENGTH]);
+    let remembered = lists::wide(dir[header::B1_LENGTH]) + lists::wide(dir[header::B2_LENGTH]);
     if !search::pages_differ(dir, cached + remembered) {
         return false;
     }
-    if search::count(dir, 8 + 2 * cached, remembered, 1) != 0 {
+    if search::count(dir, header::ENTRIES + 2 * cached, remembered, 1) != 0 {
         return false;
     }
-    if dir[0] == policies::CAR {
+    if dir[header::POLICY] == policies::CAR {
         car_sound(dir)
     } else {
         cart_sound(dir)
@@ -96,12 +97,12 @@ pub fn is_sound(dir: &[u32]) -> bool
     if !sizes_fit(dir) {
         return false;
     }
-    let cached = lists::wide(dir[4]) + lists::wide(dir[5]);
-    let all = cached + (lists::wide(dir[6]) + lists::wide(dir[7]));
+    let cached = lists::wide(dir[header::T1_LENGTH]) + lists::wide(dir[header::T2_LENGTH]);
+    let all = cached + (lists::wide(dir[header::B1_LENGTH]) + lists::wide(dir[header::B2_LENGTH]));
     if !search::flags_known(dir, all) {
         return false;
     }
-    if !search::all_zero(dir, 8 + 2 * all) {
+    if !search::all_zero(dir, header::ENTRIES + 2 * all) {
         return false;
     }
     entries_sound(dir)
