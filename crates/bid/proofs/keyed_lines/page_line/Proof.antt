@@ -74,8 +74,8 @@ returns-3 c =
     (ap (counted _) (lt-ltb _ _ (few .if1 .left))
     ∙ sym (c .before .before .whole .ensures) ∙ ap meant (c .enum-told2 .given .1))
 
-add-t14 : tie.Need-add-t14
-add-t14 c =
+add-t11 : tie.Need-add-t11
+add-t11 c =
     let found = c .before .before .before .before .before .before .before in
     let i = value-inside (found .before .before .under-key .ensures) (found .start .given .1) in search needs
 
@@ -105,5 +105,5 @@ page-line-spec =
     enum-known-page
     enum-told-2
     returns-3
-    add-t14
+    add-t11
     returns-4)
