@@ -1,18 +1,20 @@
 -- What a run learns of its tally: it is the tally of figures' Run, and n answers make it no larger than n answers can.
 -- So a tally of fewer than 1,000 answers is Small, as `counted` asks.
 use mathlib.Core.Bool.{Bool, true, false}
-use mathlib.Core.Path.{_≡_, refl}
+use mathlib.Core.Path.{_≡_}
 use Prim.Native.Nat.{ℕ, _+_, _*_, _≤_, _<_}
 use lib.Dec.{eqb, leb}
 use native.Mathlib.Omega.{arith}
 use Rattle.terms.specs.Choice.{if_then_else_}
-use Rattle.figures.specs.Request.{Served}
+use Rattle.figures.specs.Request as Request
 use Rattle.figures.specs.Run as Run
+use Rattle.engine.specs.declared.Served.{Served}
 use Rattle.tally.specs.Note.{defined, notedOf, Small}
 use Rattle.tally.specs.declared.Tally.{Tally}
 
-pub noted-defined : (t : Tally) (s : Served) → defined (notedOf t (s .kind) (s .moves)) ≡ Run.noted s (defined t)
-noted-defined t s = refl
+pub noted-defined : (t : Tally) (r : Served) (s : Request.Served) → r .kind ≡ s .kind → r .moves ≡ s .moves
+    → defined (notedOf t r) ≡ Run.noted s (defined t)
+noted-defined t r s kind moves = rw (kind, moves)
 
 -- The tally of n answers, of at most 2,049 moves each, is at most this large.
 pub record Within (n : ℕ) (t : Tally) : Type 0 where
@@ -39,11 +41,11 @@ other-at-most : (b : Bool) → (if b then 0 else 1) ≤ 1
 other-at-most true = omega arith
 other-at-most false = omega arith
 
-pub noted-within : (n : ℕ) (t : Tally) (kind moves : ℕ) → moves ≤ 2049 → Within n t → Within (n + 1) (notedOf t kind moves)
-noted-within n t kind moves l w = record {
+pub noted-within : (n : ℕ) (t : Tally) (r : Served) → r .moves ≤ 2049 → Within n t → Within (n + 1) (notedOf t r)
+noted-within n t r l w = record {
   requests = omega arith;
-  hits = omega (arith, one-at-most (eqb kind 0));
-  misses = omega (arith, other-at-most (eqb kind 0));
-  evictions = omega (arith, one-at-most (leb 2 kind));
+  hits = omega (arith, one-at-most (eqb (r .kind) 0));
+  misses = omega (arith, other-at-most (eqb (r .kind) 0));
+  evictions = omega (arith, one-at-most (leb 2 (r .kind)));
   moves = omega arith;
 }

@@ -3,6 +3,7 @@
 ghost use mathlib.Core.Path.{_≡_};
 ghost use Prim.Native.Nat.{_≤_};
 ghost use Rattle.tally.specs.Note.{notedOf, Small};
+use engine::kinds;
 
 pub struct Tally {
     pub requests: u32,
@@ -12,36 +13,36 @@ pub struct Tally {
     pub moves: u32,
 }
 
-// The tally brought up to date by an answer of this kind and so many moves.
-fn noted(t: Tally, kind: u32, moves: u32) -> Tally
-    requires { ⌜ Small t × (moves ≤ 2049) ⌝ }
-    ensures { λ r. ⌜ r ≡ notedOf t kind moves ⌝ }
+// The tally brought up to date by an answer.
+fn noted(t: Tally, served: engine::Served) -> Tally
+    requires { ⌜ Small t × (served .moves ≤ 2049) ⌝ }
+    ensures { λ r. ⌜ r ≡ notedOf t served ⌝ }
 {
-    let hit = if kind == 0 { 1 } else { 0 };
-    let evicted = if kind < 2 { 0 } else { 1 };
+    let hit = if served.kind == kinds::HIT { 1 } else { 0 };
+    let evicted = if served.kind < kinds::NEW { 0 } else { 1 };
     Tally {
         requests: t.requests + 1,
         hits: t.hits + hit,
         misses: t.misses + (1 - hit),
         evictions: t.evictions + evicted,
-        moves: t.moves + moves,
+        moves: t.moves + served.moves,
     }
 }
 
 // The same of a tally that is lent.
-fn note(t: &mut Tally, kind: u32, moves: u32)
-    requires { ⌜ Small (now t) × (moves ≤ 2049) ⌝ }
-    ensures { λ _. ⌜ now (t .exit) ≡ notedOf (now (t .entry)) kind moves ⌝ }
+fn note(t: &mut Tally, served: engine::Served)
+    requires { ⌜ Small (now t) × (served .moves ≤ 2049) ⌝ }
+    ensures { λ _. ⌜ now (t .exit) ≡ notedOf (now (t .entry)) served ⌝ }
 {
-    *t = noted(*t, kind, moves);
+    *t = noted(*t, served);
 }
 
 // The same by value, through the lent tally.
-pub fn counted(t: Tally, kind: u32, moves: u32) -> Tally
-    requires { ⌜ Small t × (moves ≤ 2049) ⌝ }
-    ensures { λ r. ⌜ r ≡ notedOf t kind moves ⌝ }
+pub fn counted(t: Tally, served: engine::Served) -> Tally
+    requires { ⌜ Small t × (served .moves ≤ 2049) ⌝ }
+    ensures { λ r. ⌜ r ≡ notedOf t served ⌝ }
 {
     let mut own = t;
-    note(&mut own, kind, moves);
+    note(&mut own, served);
     own
 }
