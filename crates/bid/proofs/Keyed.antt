@@ -12,10 +12,10 @@ use borrow.Author.Tests.{ltb-true, ltb-false}
 use lib.Dec.{ltb}
 use Rattle.terms.specs.Choice.{if_then_else_, ∣_∣}
 use Rattle.terms.specs.Refusals.{noSuchLine}
-use Rattle.sheets.specs.Text.{starts}
+use Rattle.text.specs.Text.{starts}
 use Rattle.sheets.specs.Number.{Value}
 use Rattle.sheets.specs.Lines.{lines, Reading, bad, before, under}
-use Rattle.sheets.proofs.Text.{short-lacks}
+use Rattle.text.proofs.Text.{short-lacks}
 use Rattle.lines.proofs.Cursor.{ClosedAt, MissingAt, ended, not-closed}
 use Rattle.bid.specs.Answers.{KeyedAt}
 use Rattle.bid.specs.declared.keyed_lines.Keyed.the-variants.{Value as ValueAt, NoSuchLine}

@@ -14,7 +14,7 @@ use Rattle.sheets.specs.Bid.{Pages, listed, refusedAt, numberOfLine, onto, page
 use Rattle.sheets.specs.Refusals.{over}
 use Rattle.sheets.proofs.Pages.{next-page, wrong-page}
 use Rattle.sheets.proofs.Lines.{not-at-end}
-use Rattle.sheets.proofs.Text.{from-place}
+use Rattle.text.proofs.Text.{from-place}
 use Rattle.bid.specs.Answers.{numberOf, told, Reads, sizeOf, Filled}
 use Rattle.bid.specs.declared.keyed_lines.Reading.{Reading}
 use Rattle.bid.specs.declared.keyed_lines.Reading.the-variants.{Good, NoSuchLine, TooManyPages}

@@ -10,7 +10,7 @@ use lib.Seq.{length-take-le}
 use borrow.Author.Tests.{lt-ltb, le-ltb}
 use Rattle.terms.specs.Choice.{if_then_else_, ∣_∣}
 use Rattle.terms.specs.Refusals.{accepted, sheetTooLong, noSuchLine}
-use Rattle.sheets.specs.Text.{placeOf}
+use Rattle.bytes.specs.Bytes.{indexOf}
 use Rattle.sheets.specs.Lines.{lines}
 use Rattle.sheets.specs.LookUp.{Place, between, nowhere, equalsSign, valueIn, valueOf}
 use Rattle.sheets.specs.Refusals.{Found, foundAt, onLookUp}
@@ -29,18 +29,18 @@ module _ (s : List ℕ) (at stop : ℕ) (from : at ≤ stop) (inside : stop ≤ 
   line-length = length-take-le (stop - at) (drop at s) (omega (arith, length-drop at s))
 
   abbrev placed : Bool → Place
-  placed t = if t then between (at + placeOf equalsSign bytesOf + 1) (at + ∣ bytesOf ∣) else nowhere
+  placed t = if t then between (at + indexOf equalsSign bytesOf + 1) (at + ∣ bytesOf ∣) else nowhere
 
-  module _ (n : ℕ) (first : n ≡ placeOf equalsSign bytesOf) where
-    pub value-here : at + n < stop → valueIn at bytesOf ≡ between (at + n + 1) stop
+  module _ (n : ℕ) (first : n ≡ at + indexOf equalsSign bytesOf) where
+    pub value-here : n < stop → valueIn at bytesOf ≡ between (n + 1) stop
     value-here h =
         let width : at + ∣ bytesOf ∣ ≡ stop = omega (arith, line-length) in
-        let before : placeOf equalsSign bytesOf < ∣ bytesOf ∣ = omega (arith, line-length) in
+        let before : indexOf equalsSign bytesOf < ∣ bytesOf ∣ = omega (arith, line-length) in
         ap placed (lt-ltb _ _ before) ∙ rw (← first, width) refl
 
-    pub no-value : stop ≤ at + n → valueIn at bytesOf ≡ nowhere
+    pub no-value : stop ≤ n → valueIn at bytesOf ≡ nowhere
     no-value h =
-        let past : ∣ bytesOf ∣ ≤ placeOf equalsSign bytesOf = omega (arith, line-length) in ap placed (le-ltb _ _ past)
+        let past : ∣ bytesOf ∣ ≤ indexOf equalsSign bytesOf = omega (arith, line-length) in ap placed (le-ltb _ _ past)
 
 -- THE LINES FROM A PLACE ON
 

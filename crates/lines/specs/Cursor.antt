@@ -6,7 +6,7 @@ use Prim.Native.Nat.{ℕ, _+_, _≤_}
 use lib.ListN.{drop}
 use lib.Dec.{ltb}
 use Rattle.terms.specs.Choice.{if_then_else_, ∣_∣}
-use Rattle.sheets.specs.Text.{placeOf}
+use Rattle.bytes.specs.Bytes.{indexOf}
 use Rattle.sheets.specs.Lines.{lineFeed}
 use Rattle.sheets.specs.Refusals.{Found}
 use Rattle.lines.specs.declared.Span.{Span}
@@ -15,7 +15,7 @@ use Rattle.lines.specs.declared.Line.the-variants.{Closed, Missing}
 
 abbrev pub lineAt : List ℕ → ℕ → Line
 lineAt s at =
-    let n = placeOf lineFeed (drop at s) in
+    let n = indexOf lineFeed (drop at s) in
     if ltb (at + n) ∣ s ∣ then Closed (at + n) else Missing
 
 -- A span that is what the look-up's definition finds, and lies in the sheet.

@@ -42,7 +42,7 @@ fn line_from(sheet: &[u8], at: usize) -> Line
     if sheet.len() <= at {
         return Line::Missing;
     }
-    let end = at + text::place_of(&sheet[at..], b'\n');
+    let end = bytes::scan::find(sheet, at, sheet.len(), b'\n');
     if end < sheet.len() {
         Line::Closed(end)
     } else {
@@ -81,7 +81,7 @@ fn value_in(sheet: &[u8], at: usize, end: usize) -> Span
     ensures { λ r. ⌜ SpanOf (now (sheet .entry))
         (foundAt (valueIn at (take (end - at) (drop at (now (sheet .entry)))))) r ⌝ }
 {
-    let equals = at + text::place_of(&sheet[at..end], b'=');
+    let equals = bytes::scan::find(sheet, at, end, b'=');
     if equals < end {
         Span {
             number: refusals::ACCEPTED,

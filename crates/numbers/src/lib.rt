@@ -83,7 +83,7 @@ fn thousandths(before: &[u8], after: &[u8]) -> u32
 pub fn miss_cost(text: &[u8]) -> Number
     ensures { λ r. ⌜ meant r ≡ missCost (now (text .entry)) ⌝ }
 {
-    let n = text::place_of(text, b',');
+    let n = bytes::scan::find(text, 0, text.len(), b',');
     if text.len() != n + 4 {
         return Number::NotInForm;
     }

@@ -5,7 +5,7 @@ use Prim.Native.Nat.{ℕ, _+_, _^_, _≤_, _<_}
 use native.Mathlib.Omega.{arith}
 use lib.ListN.{length-append}
 use Rattle.terms.specs.Choice.{∣_∣}
-use Rattle.sheets.specs.Text.{bytes}
+use Rattle.text.specs.Text.{bytes}
 use Rattle.sheets.specs.Result.{decimal, lineOf}
 use Rattle.sheets.proofs.Lengths.{decimal-length, count-length}
 use Rattle.result.specs.Ledger.{named, requestLine, WorkedLine}

@@ -5,7 +5,7 @@ use mathlib.Core.List.{_++_, append-assoc}
 use Prim.Native.Nat.{_+_}
 use lib.ListN.{length, length-append}
 use Rattle.terms.specs.Choice.{∣_∣}
-use Rattle.sheets.specs.Text.{bytes}
+use Rattle.text.specs.Text.{bytes}
 use Rattle.sheets.specs.Result.{Outcome, decimal, milliseconds, policyName, lineOf, resultSheet}
 use Rattle.result.specs.Parts.{tallyLines}
 

@@ -4,7 +4,7 @@ use mathlib.Core.Path.{_≡_}
 use mathlib.Core.List.{List, _++_}
 use Prim.Native.Nat.{ℕ}
 use Prim.Native.String.{String}
-use Rattle.sheets.specs.Text.{bytes}
+use Rattle.text.specs.Text.{bytes}
 use Rattle.sheets.specs.Result.{decimal, lineOf}
 
 abbrev pub named : String → ℕ → List ℕ

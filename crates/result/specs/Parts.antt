@@ -2,7 +2,7 @@
 -- proofs/Parts shows that the sheet has it between its second line and its last.
 use mathlib.Core.List.{List, _++_}
 use Prim.Native.Nat.{ℕ}
-use Rattle.sheets.specs.Text.{bytes}
+use Rattle.text.specs.Text.{bytes}
 use Rattle.sheets.specs.Result.{Outcome, decimal, lineOf}
 
 -- The five lines of the run's tally.

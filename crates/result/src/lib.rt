@@ -2,7 +2,7 @@
 // Every writer is total: refusals 1 and 6. What it promises is in specs/Promises.
 ghost use mathlib.Core.Path.{_≡_};
 ghost use mathlib.Core.List.{[], _∷_, _++_};
-ghost use Rattle.sheets.specs.Text.{bytes};
+ghost use Rattle.text.specs.Text.{bytes};
 ghost use Rattle.sheets.specs.Result.{lastDigit, decimal, milliseconds, policyName, lineOf, resultSheet};
 ghost use Rattle.result.specs.Put.{Room, Put};
 ghost use Rattle.result.specs.Parts.{tallyLines};

@@ -6,7 +6,7 @@ use Prim.Native.Nat.{ℕ, _+_, _*_}
 use lib.ListN.{getD, drop}
 use Rattle.figures.specs.Directory.{fresh}
 use Rattle.figures.specs.Run.{Tally, Ran, run}
-use Rattle.sheets.specs.Text.{bytes}
+use Rattle.text.specs.Text.{bytes}
 use Rattle.sheets.specs.Bid.{Bid, Meaning, bid, refused, meaning}
 use Rattle.sheets.specs.Result.{Outcome, resultSheet, refusedSheet}
 use Rattle.sheets.specs.Examples.{worked}

@@ -13,10 +13,10 @@ use Rattle.terms.specs.Choice.{if_then_else_, ∣_∣}
 use Rattle.terms.specs.Refusals.{notInForm}
 use Rattle.terms.proofs.Choice.{by-test, either}
 use Rattle.terms.proofs.Tests.{reads}
-use Rattle.sheets.specs.Text.{placeOf}
+use Rattle.bytes.specs.Bytes.{indexOf}
 use Rattle.sheets.specs.Number.{means, wrong, zeroDigit, comma, isDigit, allDigits, valueAfter, value}
 use Rattle.sheets.specs.Number.{noLeadingZero, digitsForm, whole, beforeComma, afterComma, costForm, missCost}
-use Rattle.sheets.proofs.Text.{from-place}
+use Rattle.text.proofs.Text.{from-place}
 
 -- A LOOP OVER DIGITS
 
@@ -144,7 +144,7 @@ module _ (s : List ℕ) where
       thousandths-below (beforeComma s) (afterComma s) (form .digits, form .at-most) (h .after, three)
 
 -- The two parts, cut at the place n of the comma; the second by its length, as a slice's end is.
-module _ (s : List ℕ) (n : ℕ) (place : n ≡ placeOf comma s) where
+module _ (s : List ℕ) (n : ℕ) (place : n ≡ indexOf comma s) where
   abbrev pub behind : List ℕ
   behind = take (∣ s ∣ - (n + 1)) (drop (n + 1) s)
 
@@ -157,7 +157,7 @@ module _ (s : List ℕ) (n : ℕ) (place : n ≡ placeOf comma s) where
       ∙ ap (λ (k : ℕ). drop (k + 1) s) place
 
   pub three-after : IsCost s → ∣ s ∣ ≡ n + 4
-  three-after h = omega (arith, h .three, length-drop (placeOf comma s + 1) s)
+  three-after h = omega (arith, h .three, length-drop (indexOf comma s + 1) s)
 
   pub cost-in-parts : IsCost s → (digitsForm 4 (take n s) ≡ true) × (allDigits behind ≡ true)
   cost-in-parts h = (ap (digitsForm 4) before-is ∙ h .before, ap allDigits after-is ∙ h .after)
@@ -169,6 +169,6 @@ module _ (s : List ℕ) (n : ℕ) (place : n ≡ placeOf comma s) where
       is : IsCost s
       is = record {
         before = ap (digitsForm 4) (sym before-is) ∙ form;
-        three = omega (arith, length-drop (placeOf comma s + 1) s);
+        three = omega (arith, length-drop (indexOf comma s + 1) s);
         after = ap allDigits (sym after-is) ∙ all;
       }

@@ -1,13 +1,14 @@
 -- The worked examples hold, each by computation.
 -- Assumes nothing.
 use mathlib.Core.Path.{refl}
+use Rattle.bytes.specs.Bytes.{indexOf}
 use Rattle.sheets.specs.Number.{whole, missCost, digitsForm}
 use Rattle.sheets.specs.Bid.{policyLine, sizeLine, costLine, pageLine, inOrder, meaning}
 use Rattle.sheets.specs.Result.{decimal, milliseconds, resultSheet, refusedSheet}
 use Rattle.sheets.specs.Examples.{MissCosts, WholeNumbers, Sheets, LookedUp, Results}
 
 pub miss-costs : MissCosts
-unfolding digitsForm missCost
+unfolding digitsForm missCost indexOf
 miss-costs = record {
   comma-kept = refl;
   nothing = refl;
@@ -35,7 +36,7 @@ whole-numbers = record {
 }
 
 pub sheets : Sheets
-unfolding digitsForm whole missCost policyLine sizeLine costLine pageLine inOrder meaning
+unfolding digitsForm whole missCost policyLine sizeLine costLine pageLine inOrder meaning indexOf
 sheets = record {
   the-worked = refl;
   empty = refl;
@@ -53,6 +54,7 @@ sheets = record {
 }
 
 pub looked-up : LookedUp
+unfolding indexOf
 looked-up = record {
   third-value = refl;
   first-equals = refl;

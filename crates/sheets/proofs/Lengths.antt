@@ -9,7 +9,7 @@ use lib.Dec.{eqb}
 use Rattle.terms.specs.Choice.{∣_∣}
 use Rattle.terms.specs.Policies.{car}
 use Rattle.terms.proofs.Choice.{either}
-use Rattle.sheets.specs.Text.{bytes}
+use Rattle.text.specs.Text.{bytes}
 use Rattle.sheets.specs.Result.{Outcome, decimal, milliseconds, policyName, lineOf, resultSheet}
 use Rattle.sheets.specs.Demands.{ResultFits}
 use Rattle.sheets.proofs.Numbers.{digits-of}

@@ -9,9 +9,9 @@ use lib.ListN.{getD, take, drop}
 use lib.Dec.{eqb}
 use Rattle.terms.specs.Choice.{if_then_else_, ∣_∣}
 use Rattle.terms.proofs.Choice.{either}
-use Rattle.sheets.specs.Text.{placeOf}
+use Rattle.bytes.specs.Bytes.{indexAfter, indexOf}
 use Rattle.sheets.specs.Lines.{Lines, end, unclosed, line, lineFeed, behind, lines}
-use Rattle.sheets.proofs.Text.{from-place}
+use Rattle.text.proofs.Text.{from-place}
 use Rattle.sheets.proofs.Pages.{isEnd}
 
 -- The line of the first n bytes, and the lines of those behind the one at n.
@@ -22,39 +22,41 @@ split-later : (b n : ℕ) (s : List ℕ) → behind b (splitAt n s) ≡ splitAt 
 split-later b n s =
     let next : suc (n + 1) ≡ suc n + 1 = omega arith in ap (λ (m : ℕ). line (b ∷ take n s) (lines (drop m (b ∷ s)))) next
 
-pub lines-closed : (s : List ℕ) → placeOf lineFeed s < ∣ s ∣ → lines s ≡ splitAt (placeOf lineFeed s) s
+pub lines-closed : (s : List ℕ) → indexOf lineFeed s < ∣ s ∣ → lines s ≡ splitAt (indexOf lineFeed s) s
+unfolding indexOf indexAfter
 lines-closed [] closed = absurd (omega arith)
 lines-closed (b ∷ s) closed = by-first (eqb b lineFeed) closed (lines-closed s)
   where
     n : ℕ
-    n = placeOf lineFeed s
+    n = indexOf lineFeed s
 
-    by-first : (t : Bool) → (if t then 0 else suc n) < suc ∣ s ∣ → (n < ∣ s ∣ → lines s ≡ splitAt n s)
-        → (if t then line [] (lines s) else behind b (lines s)) ≡ splitAt (if t then 0 else suc n) (b ∷ s)
+    by-first : (t : Bool) → indexAfter t n < suc ∣ s ∣ → (n < ∣ s ∣ → lines s ≡ splitAt n s)
+        → (if t then line [] (lines s) else behind b (lines s)) ≡ splitAt (indexAfter t n) (b ∷ s)
     by-first true closed later = refl
     by-first false closed later = ap (behind b) (later (omega arith)) ∙ split-later b n s
 
 -- Bytes without a line feed: the first is none, and so with the others.
 record NoneIn (b : ℕ) (s : List ℕ) : Type 0 where
   pub first-is-not : lines (b ∷ s) ≡ behind b (lines s)
-  pub none-later : placeOf lineFeed s ≡ ∣ s ∣
+  pub none-later : indexOf lineFeed s ≡ ∣ s ∣
 
-none-in : (b : ℕ) (s : List ℕ) → placeOf lineFeed (b ∷ s) ≡ suc ∣ s ∣ → NoneIn b s
+none-in : (b : ℕ) (s : List ℕ) → indexOf lineFeed (b ∷ s) ≡ suc ∣ s ∣ → NoneIn b s
+unfolding indexOf indexAfter
 none-in b s = by-first (eqb b lineFeed) refl
   where
-    by-first : (t : Bool) → eqb b lineFeed ≡ t → (if t then 0 else suc (placeOf lineFeed s)) ≡ suc ∣ s ∣ → NoneIn b s
+    by-first : (t : Bool) → eqb b lineFeed ≡ t → indexAfter t (indexOf lineFeed s) ≡ suc ∣ s ∣ → NoneIn b s
     by-first true is none = absurd (omega arith)
     by-first false is none = record {
       first-is-not = ap (λ (t : Bool). if t then line [] (lines s) else behind b (lines s)) is;
       none-later = omega arith;
     }
 
-behind-unclosed : (b : ℕ) (s : List ℕ) → placeOf lineFeed s ≡ ∣ s ∣ → behind b (lines s) ≡ unclosed
+behind-unclosed : (b : ℕ) (s : List ℕ) → indexOf lineFeed s ≡ ∣ s ∣ → behind b (lines s) ≡ unclosed
 behind-unclosed b [] none = refl
 behind-unclosed b (c ∷ s) none =
     let h = none-in c s none in ap (behind b) (h .first-is-not ∙ behind-unclosed c s (h .none-later))
 
-pub lines-unclosed : (s : List ℕ) → placeOf lineFeed s ≡ ∣ s ∣ → 1 ≤ ∣ s ∣ → lines s ≡ unclosed
+pub lines-unclosed : (s : List ℕ) → indexOf lineFeed s ≡ ∣ s ∣ → 1 ≤ ∣ s ∣ → lines s ≡ unclosed
 lines-unclosed [] none some = absurd (omega arith)
 lines-unclosed (b ∷ s) none some = let h = none-in b s none in h .first-is-not ∙ behind-unclosed b s (h .none-later)
 

@@ -12,7 +12,7 @@ use lib.Dec.{leb, ltb, eqb}
 use borrow.Author.Tests.{ltb-true, ltb-false, lt-ltb, le-ltb, le-leb, ne-eqb, eqb-false}
 use Rattle.terms.specs.Choice.{if_then_else_, ∣_∣}
 use Rattle.terms.proofs.Choice.{by-test}
-use Rattle.sheets.specs.Text.{placeOf}
+use Rattle.bytes.specs.Bytes.{indexAfter, indexOf}
 use Rattle.sheets.specs.Number.{zeroDigit, comma, isDigit, allDigits, value, valueAfter, noLeadingZero, digitsForm, whole}
 use Rattle.sheets.specs.Number.{means, beforeComma, afterComma, missCost}
 use Rattle.sheets.specs.Result.{lastDigit, inDigits, decimal, threeDigits, milliseconds}
@@ -138,12 +138,13 @@ whole-back n h =
     rw (in-form 9 n (decimal n) d (omega arith), d .worth, le-leb n 4294967295 (omega arith))
 
 -- The comma behind digits is the first one.
-comma-place : (s t : List ℕ) → allDigits s ≡ true → placeOf comma (s ++ (comma ∷ t)) ≡ ∣ s ∣
+comma-place : (s t : List ℕ) → allDigits s ≡ true → indexOf comma (s ++ (comma ∷ t)) ≡ ∣ s ∣
+unfolding indexOf indexAfter
 comma-place [] t all = refl
 comma-place (b ∷ s) t all = go (isDigit b) refl all (comma-place s t)
   where
     go : (test : Bool) → isDigit b ≡ test → (if test then allDigits s else false) ≡ true
-        → (allDigits s ≡ true → placeOf comma (s ++ (comma ∷ t)) ≡ ∣ s ∣) → placeOf comma (b ∷ (s ++ (comma ∷ t))) ≡ suc ∣ s ∣
+        → (allDigits s ≡ true → indexOf comma (s ++ (comma ∷ t)) ≡ ∣ s ∣) → indexOf comma (b ∷ (s ++ (comma ∷ t))) ≡ suc ∣ s ∣
     go true is all rest =
         let other = ne-eqb b comma (λ same. false≢true (sym (ap isDigit same) ∙ is)) in
         rw other (ap suc (rest all))

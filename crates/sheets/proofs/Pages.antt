@@ -9,7 +9,7 @@ use lib.Dec.{ltb}
 use borrow.Author.Tests.{ltb-true}
 use Rattle.terms.specs.Choice.{if_then_else_, ∣_∣}
 use Rattle.terms.specs.Refusals.{tooManyPages, noSuchLine}
-use Rattle.sheets.specs.Text.{bytes, starts}
+use Rattle.text.specs.Text.{bytes, starts}
 use Rattle.sheets.specs.Number.{Value, means, wrong, whole}
 use Rattle.sheets.specs.Lines.{Lines, end, unclosed, line, Reading, good, bad, before}
 use Rattle.sheets.specs.Bid.{listed, refusedAt, numberOfLine, onto, pageMeant, pageLine, pagesFrom}

@@ -9,7 +9,7 @@ use lib.Dec.{ltb}
 use Rattle.terms.specs.Choice.{∣_∣}
 use Rattle.terms.specs.Limits.{knownSize}
 use Rattle.terms.proofs.Choice.{either}
-use Rattle.sheets.specs.Text.{bytes, starts}
+use Rattle.text.specs.Text.{bytes, starts}
 use Rattle.sheets.specs.Number.{Value, means, wrong, wholeForm, whole, costForm, missCost}
 use Rattle.sheets.specs.Lines.{Lines, end, unclosed, line, lines, Reading, good, bad, before, under}
 use Rattle.sheets.specs.Bid.{Meaning, bid, refused, PolicyValue, named, blank, unknown, policyValue, policyMeant, policyLine}

@@ -5,7 +5,7 @@ use mathlib.Core.List.{List, [], _∷_}
 use Prim.Native.Nat.{ℕ}
 use Prim.Native.String.{String}
 use Rattle.terms.specs.Policies.{car, cart}
-use Rattle.sheets.specs.Text.{bytes}
+use Rattle.text.specs.Text.{bytes}
 use Rattle.sheets.specs.Number.{means, wrong, whole, missCost}
 use Rattle.sheets.specs.Lines.{lines}
 use Rattle.sheets.specs.Bid.{Meaning, bid, refused, meaning}

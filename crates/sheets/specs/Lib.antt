@@ -1,5 +1,4 @@
 -- What a bid sheet means and what a result sheet says, as document 01's section "Sheets" has it: read in this order.
-pub mod Text
 pub mod Number
 pub mod Lines
 pub mod Bid

@@ -6,7 +6,7 @@ use lib.ListN.{drop}
 use lib.Dec.{eqb}
 use Rattle.terms.specs.Choice.{if_then_else_, ∣_∣}
 use Rattle.terms.specs.Refusals.{noSuchLine}
-use Rattle.sheets.specs.Text.{starts}
+use Rattle.text.specs.Text.{starts}
 use Rattle.sheets.specs.Number.{Value, means, wrong}
 
 abbrev pub lineFeed : ℕ

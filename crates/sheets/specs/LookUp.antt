@@ -4,7 +4,7 @@ use mathlib.Core.List.{List}
 use Prim.Native.Nat.{ℕ, zero, suc, _+_}
 use lib.Dec.{ltb}
 use Rattle.terms.specs.Choice.{if_then_else_, ∣_∣}
-use Rattle.sheets.specs.Text.{placeOf}
+use Rattle.bytes.specs.Bytes.{indexOf}
 use Rattle.sheets.specs.Lines.{Lines, end, unclosed, line}
 
 abbrev pub equalsSign : ℕ
@@ -19,7 +19,7 @@ pub data Place : Type 0 where
 -- In a line that starts at place `at` of the sheet.
 abbrev pub valueIn : ℕ → List ℕ → Place
 valueIn at l =
-    let n = placeOf equalsSign l in
+    let n = indexOf equalsSign l in
     if ltb n ∣ l ∣ then between (at + n + 1) (at + ∣ l ∣) else nowhere
 
 -- In line n, from 1, of the lines that start at place `at` of the sheet. "It judges no key or value."

@@ -7,7 +7,7 @@ use lib.ListN.{getD, take, drop}
 use lib.Dec.{leb, eqb}
 use Rattle.terms.specs.Choice.{if_then_else_, ∣_∣, every}
 use Rattle.terms.specs.Refusals.{notInForm}
-use Rattle.sheets.specs.Text.{placeOf}
+use Rattle.bytes.specs.Bytes.{indexOf}
 
 -- What the value of a line comes to: a number, or the number of a refusal.
 pub data Value : Type 0 where
@@ -53,10 +53,10 @@ whole s = if wholeForm s then means (value s) else wrong notInForm
 
 -- "The miss cost is milliseconds: 1 to 4 digits under the same leading-zero rule, a comma, exactly three digits."
 abbrev pub beforeComma : List ℕ → List ℕ
-beforeComma s = take (placeOf comma s) s
+beforeComma s = take (indexOf comma s) s
 
 abbrev pub afterComma : List ℕ → List ℕ
-afterComma s = drop (placeOf comma s + 1) s
+afterComma s = drop (indexOf comma s + 1) s
 
 abbrev pub costForm : List ℕ → Bool
 costForm s = every (digitsForm 4 (beforeComma s) ∷ eqb ∣ afterComma s ∣ 3 ∷ allDigits (afterComma s) ∷ [])

@@ -5,7 +5,7 @@ use Prim.Native.Nat.{ℕ, zero, suc, _+_, _/_, _%_}
 use lib.Dec.{ltb, eqb}
 use Rattle.terms.specs.Choice.{if_then_else_}
 use Rattle.terms.specs.Policies.{car}
-use Rattle.sheets.specs.Text.{bytes}
+use Rattle.text.specs.Text.{bytes}
 use Rattle.sheets.specs.Number.{zeroDigit, comma}
 use Rattle.sheets.specs.Lines.{lineFeed}
 

@@ -1,54 +1,39 @@
 -- The comma's place cuts the bytes into the two parts of the definition.
-use mathlib.Core.Path.{sym, ap, _∙_}
+use mathlib.Core.Path.{_≡_, sym, ap, _∙_}
 use mathlib.Core.Bool.{true≢false}
 use mathlib.Core.Logic.{⊎-elim}
 use Prim.Native.Nat.{_+_, _-_}
+use native.Mathlib.Nat.{zero-add}
 use native.Mathlib.Omega.{arith}
 use lib.ListN.{length, take, drop, length-take}
-use lib.Seq.{length-take-le}
-use Rattle.sheets.specs.Number.{means}
+use lib.Seq.{length-take-le, take-length}
+use Rattle.bytes.specs.Bytes.{slice, indexOf}
+use Rattle.sheets.specs.Number.{means, comma}
 use Rattle.sheets.proofs.Digits.{in-form, no-cost, three-after, cost-in-parts, cost-from-parts}
 use borrow.Author.Needs.{needs}
 use Rattle.numbers.proofs.Asked.{holds, fails}
 use Rattle.numbers.proofs.miss_cost.Statement.{statement}
 use Rattle.numbers.proofs.miss_cost.Tie as tie
 
-place-of-requires : tie.Need-place-of-requires
-place-of-requires c κs = search needs
-
-add-if1 : tie.Need-add-if1
-add-if1 c = search needs
+-- The place that `find` answers.
+first : (c : tie.After-find) → c .find .result ≡ indexOf comma (c .before .before .args .text .now)
+unfolding slice
+first c =
+    let s = c .before .before .args .text .now in
+    c .find .ensures .0 ∙ zero-add (indexOf comma (take (length s) s)) ∙ ap (indexOf comma) (take-length s)
 
 returns : tie.Need-returns
 returns c =
     let s = c .before .before .before .args .text .now in
-    sym (no-cost s (λ h. omega (arith, three-after s _ (c .before .place-of .ensures .0) h)))
+    sym (no-cost s (λ h. omega (arith, three-after s _ (first (c .before)) h)))
 
 slice-aggregate-before : tie.Need-slice-aggregate-before
-slice-aggregate-before c = sym (length-take-le _ _ (c .before .before .place-of .ensures .1))
-
-add-after : tie.Need-add-after
-add-after c = search needs
-
-sub-after : tie.Need-sub-after
-sub-after c = search needs
-
-part-after-start : tie.Need-part-after-start
-part-after-start c = search needs
-
-part-after-end : tie.Need-part-after-end
-part-after-end c = search needs
-
-in-form-requires : tie.Need-in-form-requires
-in-form-requires c κs = search needs
-
-all-digits-requires : tie.Need-all-digits-requires
-all-digits-requires c κs = search needs
+slice-aggregate-before c = sym (length-take-le _ _ (c .before .before .find .ensures .1))
 
 returns-2 : tie.Need-returns-2
 returns-2 c =
     let s = c .before .before .before .before .before .before .before .args .text .now in
-    let place = c .before .before .before .before .before .place-of .ensures .0 in
+    let place = first (c .before .before .before .before .before) in
     sym (no-cost s (λ h.
     let parts = cost-in-parts s _ place h in
     ⊎-elim
@@ -59,7 +44,7 @@ returns-2 c =
 thousandths-requires : tie.Need-thousandths-requires
 thousandths-requires c κs =
     let s = c .before .before .before .before .before .before .before .before .before .args .text .now in
-    let n = c .before .before .before .before .before .before .before .place-of .result in
+    let n = c .before .before .before .before .before .before .before .find .result in
     let asked = holds (c .before .before .before .in-form .ensures) (c .before .before .if2 .left) in
     let form = in-form 4 (take n s) asked in
     let all = holds (c .before .all-digits .ensures) (c .if3 .left) in
@@ -68,7 +53,7 @@ thousandths-requires c κs =
 returns-3 : tie.Need-returns-3
 returns-3 c =
     let s = c .before .before .before .before .before .before .before .before .before .before .args .text .now in
-    let place = c .before .before .before .before .before .before .before .before .place-of .ensures .0 in
+    let place = first (c .before .before .before .before .before .before .before .before) in
     let form = holds (c .before .before .before .before .in-form .ensures) (c .before .before .before .if2 .left) in
     let all = holds (c .before .before .all-digits .ensures) (c .before .if3 .left) in
     ap means (c .thousandths .ensures) ∙ sym (cost-from-parts s _ place (omega arith) form all)
@@ -77,16 +62,16 @@ pub miss-cost-spec : {M : Type 1} → statement M
 miss-cost-spec =
     tie.close
     (tie.spec
-    place-of-requires
-    add-if1
+    (λ c κs. search needs)
+    (λ c. search needs)
     returns
     slice-aggregate-before
-    add-after
-    sub-after
-    part-after-start
-    part-after-end
-    in-form-requires
-    all-digits-requires
+    (λ c. search needs)
+    (λ c. search needs)
+    (λ c. search needs)
+    (λ c. search needs)
+    (λ c κs. search needs)
+    (λ c κs. search needs)
     returns-2
     thousandths-requires
     returns-3)

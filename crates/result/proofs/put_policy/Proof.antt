@@ -7,7 +7,7 @@ use Prim.Native.Nat.{ℕ}
 use borrow.Author.Tests.{eq-eqb, ne-eqb}
 use Rattle.terms.specs.Choice.{if_then_else_}
 use Rattle.terms.specs.Policies.{car}
-use Rattle.sheets.specs.Text.{bytes}
+use Rattle.text.specs.Text.{bytes}
 use Rattle.sheets.specs.Result.{policyName, lineOf}
 use Rattle.result.proofs.Putting.{put-as, room-as}
 use Rattle.result.proofs.put_policy.Statement.{statement}

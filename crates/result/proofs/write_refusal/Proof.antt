@@ -1,7 +1,7 @@
 -- Two lines of at most 19 and 16 bytes, one after the other.
 use borrow.Author.Needs.{needs}
 use native.Mathlib.Omega.{arith}
-use Rattle.sheets.specs.Text.{bytes}
+use Rattle.text.specs.Text.{bytes}
 use Rattle.sheets.specs.Result.{refusedSheet}
 use Rattle.sheets.proofs.Lengths.{count-length}
 use Rattle.result.proofs.Putting.{both}

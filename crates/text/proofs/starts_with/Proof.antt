@@ -3,8 +3,8 @@ use mathlib.Core.Path.{_≡_, refl, sym, ap, _∙_}
 use Prim.Native.Nat.{_≤_, _-_}
 use native.Mathlib.Omega.{arith}
 use lib.ListN.{length, drop, drop-of-length-le}
-use Rattle.sheets.specs.Text.{starts}
-use Rattle.sheets.proofs.Text.{short-lacks, key-goes-on, key-differs}
+use Rattle.text.specs.Text.{starts}
+use Rattle.text.proofs.Text.{short-lacks, key-goes-on, key-differs}
 use borrow.Author.Needs.{needs}
 use Rattle.text.proofs.starts_with.Statement.{statement}
 use Rattle.text.proofs.starts_with.Tie as tie

@@ -4,11 +4,11 @@ use mathlib.Core.Bool.{Bool}
 use mathlib.Core.List.{List, []}
 use Prim.Native.Nat.{ℕ}
 use borrow.Author.Needs.{needs}
-use Rattle.terms.specs.Choice.{if_then_else_, same}
+use Rattle.terms.specs.Choice.{if_then_else_}
 use Rattle.terms.specs.Policies.{car, cart}
-use Rattle.sheets.specs.Text.{bytes}
+use Rattle.text.specs.Text.{bytes, same}
 use Rattle.sheets.specs.Bid.{PolicyValue, named, blank, unknown, policyValue}
-use Rattle.sheets.proofs.Text.{same-starts, lengths-differ}
+use Rattle.text.proofs.Text.{same-starts, lengths-differ}
 use Rattle.bid.proofs.keyed_lines.policy_value.Statement.{statement}
 use Rattle.bid.proofs.keyed_lines.policy_value.Tie as tie
 

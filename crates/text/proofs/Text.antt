@@ -1,5 +1,5 @@
--- The first place of a byte, and a key in front of bytes, read on from a place: what a loop over the bytes wants.
--- Assumes nothing.
+-- A key in front of bytes, read on from a place: what a loop over the bytes wants. Two texts of one length are the
+-- same where one starts with the other.
 use mathlib.Core.Path.{_≡_, refl, ap, _∙_}
 use mathlib.Core.Bool.{Bool, false}
 use mathlib.Core.List.{List, [], _∷_}
@@ -9,30 +9,15 @@ use lib.ListN.{getD, drop}
 use lib.Seq.{drop-cons}
 use lib.Dec.{eqb}
 use borrow.Author.Tests.{eq-eqb, ne-eqb}
-use Rattle.terms.specs.Choice.{if_then_else_, ∣_∣, same}
+use Rattle.terms.specs.Choice.{if_then_else_, ∣_∣}
 use Rattle.terms.proofs.Choice.{either}
-use Rattle.sheets.specs.Text.{placeOf, starts}
-
-pub place-at-most : (x : ℕ) (s : List ℕ) → placeOf x s ≤ ∣ s ∣
-place-at-most x [] = omega arith
-place-at-most x (b ∷ s) =
-    let h = place-at-most x s in either (λ n. n ≤ suc ∣ s ∣) (eqb b x) (omega arith) (omega arith)
+use Rattle.text.specs.Text.{starts, same}
 
 -- Bytes from a place inside: the byte there, then those from the next place.
 pub from-place : (s : List ℕ) (i : ℕ) → i < ∣ s ∣ → drop i s ≡ getD s i 0 ∷ drop (i + 1) s
 from-place s i inside =
     let next : suc i ≡ i + 1 = omega arith in
     drop-cons s i 0 inside ∙ ap (λ (n : ℕ). getD s i 0 ∷ drop n s) next
-
-module _ (x : ℕ) (s : List ℕ) (i : ℕ) (inside : i < ∣ s ∣) where
-  abbrev chosen : Bool → ℕ
-  chosen t = if t then 0 else suc (placeOf x (drop (i + 1) s))
-
-  pub place-here : getD s i 0 ≡ x → placeOf x (drop i s) ≡ 0
-  place-here is = ap (placeOf x) (from-place s i inside) ∙ ap chosen (eq-eqb (getD s i 0) x is)
-
-  pub place-later : (getD s i 0 ≡ x → ⊥) → placeOf x (drop i s) ≡ suc (placeOf x (drop (i + 1) s))
-  place-later isnt = ap (placeOf x) (from-place s i inside) ∙ ap chosen (ne-eqb (getD s i 0) x isnt)
 
 pub short-lacks : (key s : List ℕ) → ∣ s ∣ < ∣ key ∣ → starts key s ≡ false
 short-lacks [] s h = absurd (omega arith)

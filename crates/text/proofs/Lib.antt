@@ -1,0 +1,2 @@
+-- The laws that loops over two texts want.
+pub mod Text

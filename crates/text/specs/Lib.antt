@@ -1,0 +1,2 @@
+-- Texts as bytes: quoted, in front of others, the same.
+pub mod Text
