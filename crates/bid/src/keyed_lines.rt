@@ -65,10 +65,10 @@ fn policy_value(text: &[u8]) -> PolicyValue
     if text.len() == 0 {
         return PolicyValue::Blank;
     }
-    if text::equal(text, b"car") {
+    if text::equal(text, &policies::CAR_NAME) {
         return PolicyValue::Named(policies::CAR);
     }
-    if text::equal(text, b"cart") {
+    if text::equal(text, &policies::CART_NAME) {
         return PolicyValue::Named(policies::CART);
     }
     PolicyValue::Unknown

@@ -5,12 +5,13 @@ use mathlib.Core.List.{_++_, append-assoc}
 use Prim.Native.Nat.{_+_}
 use lib.ListN.{length, length-append}
 use Rattle.terms.specs.Choice.{∣_∣}
+use Rattle.terms.specs.Policies.{policyName}
 use Rattle.text.specs.Text.{bytes}
-use Rattle.sheets.specs.Result.{Outcome, decimal, milliseconds, policyName, lineOf, resultSheet}
+use Rattle.sheets.specs.Result.{Outcome, decimal, milliseconds, lineOf, resultSheet}
 use Rattle.result.specs.Parts.{tallyLines}
 
 pub sheet-parts : (r : Outcome)
-    → lineOf (bytes "policy=") (policyName (r .policy))
+    → lineOf (bytes "policy=") (bytes (policyName (r .policy)))
     ++ (lineOf (bytes "pages=") (decimal (r .pages))
     ++ (tallyLines r
     ++ lineOf (bytes "wait=") (milliseconds (r .wait))))
@@ -20,7 +21,7 @@ sheet-parts r = simp append-assoc
 
 pub sheet-length : (r : Outcome)
     → ∣ resultSheet r ∣ ≡
-    ∣ lineOf (bytes "policy=") (policyName (r .policy)) ∣
+    ∣ lineOf (bytes "policy=") (bytes (policyName (r .policy))) ∣
     + (∣ lineOf (bytes "pages=") (decimal (r .pages)) ∣
     + (∣ tallyLines r ∣
     + ∣ lineOf (bytes "wait=") (milliseconds (r .wait)) ∣))

@@ -1,7 +1,7 @@
 -- Bytes put one after another: what is put first and what is put behind it are put as one.
 -- Assumes nothing.
 use mathlib.Core.Path.{_≡_, refl, sym, ap, subst, _∙_}
-use mathlib.Core.List.{List, [], _∷_, _++_, append-assoc}
+use mathlib.Core.List.{List, [], _∷_, _++_, append-assoc, append-nil}
 use Prim.Native.Nat.{ℕ, _+_, _<_}
 use native.Mathlib.Omega.{arith}
 use native.Mathlib.Numerals.{add-one}
@@ -30,6 +30,11 @@ stored {w} {at} {b} room =
       rest-stays = drop-set-lt (at + 1) w at b (omega arith);
       as-long = length-set w at b;
     }
+
+-- Nothing put.
+pub none-put : {w : List ℕ} {at : ℕ} → Put w at [] w at
+none-put {w} {at} =
+    record { next-is = omega arith; front-is = sym (append-nil (take at w)); rest-stays = refl; as-long = refl }
 
 -- One after another.
 pub both : {w w′ w″ x y : List ℕ} {a b c : ℕ} → Put w a x w′ b → Put w′ b y w″ c → Put w a (x ++ y) w″ c

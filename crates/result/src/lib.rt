@@ -2,8 +2,9 @@
 // Every writer is total: refusals 1 and 6. What it promises is in specs/Promises.
 ghost use mathlib.Core.Path.{_≡_};
 ghost use mathlib.Core.List.{[], _∷_, _++_};
+ghost use Rattle.terms.specs.Policies.{policyName};
 ghost use Rattle.text.specs.Text.{bytes};
-ghost use Rattle.sheets.specs.Result.{lastDigit, decimal, milliseconds, policyName, lineOf, resultSheet};
+ghost use Rattle.sheets.specs.Result.{lastDigit, decimal, milliseconds, lineOf, resultSheet};
 ghost use Rattle.result.specs.Put.{Room, Put};
 ghost use Rattle.result.specs.Parts.{tallyLines};
 ghost use Rattle.result.specs.Ledger.{requestLine};
@@ -104,15 +105,28 @@ fn put_milliseconds(out: &mut [u8], at: usize, thousandths: u64) -> usize
     put(out, next, &behind)
 }
 
-fn put_policy(out: &mut [u8], at: usize, policy: u32) -> usize
-    requires { ⌜ Room (now out) at (lineOf (bytes "policy=") (policyName policy)) ⌝ }
-    ensures { λ r. ⌜ Put (now (out .entry)) at (lineOf (bytes "policy=") (policyName policy)) (now (out .exit)) r ⌝ }
+// Puts a policy's name; a number that is no policy's has none.
+fn put_name(out: &mut [u8], at: usize, policy: u32) -> usize
+    requires { ⌜ Room (now out) at (bytes (policyName policy)) ⌝ }
+    ensures { λ r. ⌜ Put (now (out .entry)) at (bytes (policyName policy)) (now (out .exit)) r ⌝ }
 {
     if policy == policies::CAR {
-        put(out, at, b"policy=car\n")
+        put(out, at, &policies::CAR_NAME)
+    } else if policy == policies::CART {
+        put(out, at, &policies::CART_NAME)
     } else {
-        put(out, at, b"policy=cart\n")
+        at
     }
+}
+
+fn put_policy(out: &mut [u8], at: usize, policy: u32) -> usize
+    requires { ⌜ Room (now out) at (lineOf (bytes "policy=") (bytes (policyName policy))) ⌝ }
+    ensures { λ r. ⌜ Put (now (out .entry)) at (lineOf (bytes "policy=") (bytes (policyName policy)))
+        (now (out .exit)) r ⌝ }
+{
+    let next = put(out, at, b"policy=");
+    let last = put_name(out, next, policy);
+    put_byte(out, last, 10)
 }
 
 fn put_wait(out: &mut [u8], at: usize, wait: u64) -> usize

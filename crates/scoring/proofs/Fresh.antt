@@ -22,13 +22,6 @@ use Rattle.directory.specs.Promises.{Freshened, Replayed}
 use Rattle.directory.proofs.Refused.{check-sound}
 use Rattle.scoring.specs.Ready.{Fitting, RanFresh}
 
-pub known-policy : (policy : ℕ) → 1 ≤ policy → policy ≤ 2 → knownPolicy policy ≡ true
-known-policy policy least most = by-car (eqb policy car) refl
-  where
-    by-car : (b : Bool) → eqb policy car ≡ b → b || eqb policy cart ≡ true
-    by-car true is = refl
-    by-car false isnt = let h = eqb-false policy car isnt in eq-eqb policy cart (omega (arith, h))
-
 known-size : (c : ℕ) → 1 ≤ c → c ≤ 1024 → knownSize c ≡ true
 known-size c least most = rw (le-leb 1 c least, le-leb c 1024 most) refl
 
@@ -36,22 +29,19 @@ module _ {policy c : ℕ} {w trace answers : List ℕ} (h : Fitting policy c w t
   abbrev d : Directory
   d = fresh policy c
 
-  policy-known : knownPolicy policy ≡ true
-  policy-known = known-policy policy (h .policy-known .0) (h .policy-known .1)
-
   size-known : knownSize c ≡ true
   size-known = known-size c (h .size-known .0) (h .size-known .1)
 
   pub fresh-accepted : onFresh policy c w .words ≡ encode (fresh policy c)
   unfolding onFresh freshNumber
-  fresh-accepted = rw (policy-known, size-known, eq-eqb ∣ w ∣ (8 + 4 * c) (h .exact)) refl
+  fresh-accepted = rw (h .policy-known, size-known, eq-eqb ∣ w ∣ (8 + 4 * c) (h .exact)) refl
 
   sound-words : checkNumber (encode d) ≡ 0
   unfolding onCheck
   sound-words =
       let exact = words-fit d (omega arith) in
-      let is-sound = fresh-is-sound policy c policy-known size-known in
-      sym (check-sound (encode d) (omega (arith, exact)) policy-known size-known exact is-sound .number-is)
+      let is-sound = fresh-is-sound policy c (h .policy-known) size-known in
+      sym (check-sound (encode d) (omega (arith, exact)) (h .policy-known) size-known exact is-sound .number-is)
 
   pub run-accepted : onRun (encode (fresh policy c)) trace answers ≡ servedRun (run trace (fresh policy c)) answers
   unfolding onRun runNumber

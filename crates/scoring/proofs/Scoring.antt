@@ -22,7 +22,6 @@ use Rattle.result.specs.Promises.{WroteSheet, WroteRefusal}
 use Rattle.scoring.specs.declared.Scored.{Scored}
 use Rattle.scoring.specs.Scored.{outcome, replayed, printed, scored}
 use Rattle.scoring.specs.Ready.{refusedScored, Fitting, RanFresh, Lent, Good, meant, Over, BidScored, AnsweredWith}
-use Rattle.scoring.proofs.Fresh.{known-policy}
 use Rattle.scoring.proofs.Reading.{Accepted, sheet-refused, sheet-accepted}
 use Rattle.scoring.proofs.Writing.{sheet-over, text-over, over-fits}
 
@@ -63,8 +62,7 @@ module _ {b : Bid} {pages dir answers out : List ℕ} (h : Good b pages dir answ
       (w ++ drop (8 + 4 * b .c) dir) answers′ out′
   unfolding printed
   bid-scored {t} {w} {out′ = out′} {wait} {r} ran same is wrote =
-      let known = known-policy (b .policy) (h .policy-known .0) (h .policy-known .1) in
-      let front = sheet-over (handed b t wait) out wrote known (h .lent .out-fits) in
+      let front = sheet-over (handed b t wait) out wrote (h .policy-known) (h .lent .out-fits) in
       let long : ∣ encode (replayed (meant b pages) .dir) ∣ ≡ 8 + 4 * b .c
       = ap ∣_∣ (sym (ran .words-are)) ∙ same ∙ dir-part in
       record {

@@ -1,10 +1,12 @@
 -- What the functions under score and ledger need of what they are lent, and what they make of it.
 -- They are internal: score and ledger ask for nothing.
 use mathlib.Core.Path.{_≡_}
+use mathlib.Core.Bool.{true}
 use mathlib.Core.List.{List}
 use Prim.Native.Nat.{ℕ, _+_, _*_, _≤_, _<_}
 use lib.ListN.{getD, take, drop}
 use Rattle.terms.specs.Choice.{∣_∣}
+use Rattle.terms.specs.Policies.{knownPolicy}
 use Rattle.terms.specs.Refusals.{accepted}
 use Rattle.figures.specs.Directory.{fresh}
 use Rattle.figures.specs.Run.{run}
@@ -27,7 +29,7 @@ refusedScored number line count = record { number = number; line = line; count =
 
 -- A trace that a fresh directory of this policy and size can be lent for, and its answers.
 pub record Fitting (policy c : ℕ) (w trace answers : List ℕ) : Type 0 where
-  pub policy-known : (1 ≤ policy) × (policy ≤ 2)
+  pub policy-known : knownPolicy policy ≡ true
   pub size-known : (1 ≤ c) × (c ≤ 1024)
   pub exact : ∣ w ∣ ≡ 8 + 4 * c
   pub few : ∣ trace ∣ ≤ 1000
@@ -48,7 +50,7 @@ pub record Lent (least : ℕ) (pages dir answers out : List ℕ) : Type 0 where
 -- An accepted bid, with its pages in front of the page buffer.
 pub record Good (b : Bid) (pages dir answers out : List ℕ) : Type 0 where
   pub lent : Lent 256 pages dir answers out
-  pub policy-known : (1 ≤ b .policy) × (b .policy ≤ 2)
+  pub policy-known : knownPolicy (b .policy) ≡ true
   pub size-known : (1 ≤ b .c) × (b .c ≤ 1024)
   pub few : b .count ≤ 1000
 

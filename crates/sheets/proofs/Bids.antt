@@ -10,6 +10,7 @@ use lib.Dec.{ltb}
 use borrow.Author.Tests.{ltb-true}
 use Rattle.terms.specs.Choice.{∣_∣, allAtMost}
 use Rattle.terms.specs.Limits.{knownSize}
+use Rattle.terms.specs.Policies.{knownPolicy}
 use Rattle.terms.proofs.Choice.{by-test, either}
 use Rattle.terms.proofs.Tests.{reads}
 use Rattle.text.specs.Text.{bytes, starts, same}
@@ -58,16 +59,15 @@ of-after P Q n (bad number) follows h then = tt
 -- THE FIRST THREE LINES
 
 abbrev Known : ℕ → Type 0
-Known policy = (1 ≤ policy) × (policy ≤ 2)
+Known policy = knownPolicy policy ≡ true
 
 abbrev Names : PolicyValue → Type 0
 Names v = OfValue Known (policyMeant v)
 
 policy-named : (s : List ℕ) → Names (policyValue s)
 policy-named s =
-    either Names (same s (bytes "")) (omega arith)
-    (either Names (same s (bytes "car")) (omega arith)
-    (either Names (same s (bytes "cart")) (omega arith) tt))
+    either Names (same s (bytes "")) refl
+    (either Names (same s (bytes "car")) refl (either Names (same s (bytes "cart")) refl tt))
 
 policy-known : (ls : Lines) → OfReading Known (policyLine ls)
 unfolding policyLine

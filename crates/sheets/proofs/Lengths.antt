@@ -3,21 +3,22 @@
 use mathlib.Core.Path.{_≡_}
 use mathlib.Core.List.{List}
 use Prim.Native.Nat.{ℕ, _+_, _/_, _^_, _≤_, _<_}
+use Prim.Native.String.{String}
 use native.Mathlib.Omega.{arith}
 use lib.ListN.{length-append}
 use lib.Dec.{eqb}
 use Rattle.terms.specs.Choice.{∣_∣}
-use Rattle.terms.specs.Policies.{car}
+use Rattle.terms.specs.Policies.{car, cart, policyName}
 use Rattle.terms.proofs.Choice.{either}
 use Rattle.text.specs.Text.{bytes}
-use Rattle.sheets.specs.Result.{Outcome, decimal, milliseconds, policyName, lineOf, resultSheet}
+use Rattle.sheets.specs.Result.{Outcome, decimal, milliseconds, lineOf, resultSheet}
 use Rattle.sheets.specs.Demands.{ResultFits}
 use Rattle.sheets.proofs.Numbers.{digits-of}
 
 -- The sheet's length, line by line.
 pub result-length : (r : Outcome)
     → ∣ resultSheet r ∣ ≡
-    ∣ lineOf (bytes "policy=") (policyName (r .policy)) ∣
+    ∣ lineOf (bytes "policy=") (bytes (policyName (r .policy))) ∣
     + (∣ lineOf (bytes "pages=") (decimal (r .pages)) ∣
     + (∣ lineOf (bytes "requests=") (decimal (r .requests)) ∣
     + (∣ lineOf (bytes "hits=") (decimal (r .hits)) ∣
@@ -38,8 +39,12 @@ decimal-length n h = digits-of n (omega arith) .few 9 (omega arith)
 pub count-length : (key : List ℕ) (n : ℕ) → n < 2 ^ 32 → ∣ lineOf key (decimal n) ∣ ≤ ∣ key ∣ + 11
 count-length key n h = omega (arith, line-length key (decimal n), decimal-length n h)
 
-name-length : (policy : ℕ) → ∣ policyName policy ∣ ≤ 4
-name-length policy = either (λ name. ∣ name ∣ ≤ 4) (eqb policy car) (omega arith) (omega arith)
+name-length : (policy : ℕ) → ∣ bytes (policyName policy) ∣ ≤ 4
+name-length policy =
+    either Short (eqb policy car) (omega arith) (either Short (eqb policy cart) (omega arith) (omega arith))
+  where
+    Short : String → Type 0
+    Short name = ∣ bytes name ∣ ≤ 4
 
 milliseconds-length : (wait : ℕ) → wait < 2 ^ 64 → ∣ milliseconds wait ∣ ≤ 21
 unfolding milliseconds
@@ -51,7 +56,7 @@ pub result-fits : ResultFits
 result-fits r h = omega (
   arith,
   result-length r,
-  line-length (bytes "policy=") (policyName (r .policy)),
+  line-length (bytes "policy=") (bytes (policyName (r .policy))),
   name-length (r .policy),
   count-length (bytes "pages=") (r .pages) (h .pages-fit),
   count-length (bytes "requests=") (r .requests) (h .requests-fit),

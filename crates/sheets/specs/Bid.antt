@@ -5,7 +5,7 @@ use Prim.Native.Nat.{ℕ, suc, _+_}
 use lib.Dec.{ltb}
 use Rattle.terms.specs.Choice.{if_then_else_, ∣_∣}
 use Rattle.terms.specs.Limits.{mostPages, mostSheetBytes, knownSize}
-use Rattle.terms.specs.Policies.{car, cart}
+use Rattle.terms.specs.Policies.{Named, car, policies}
 use Rattle.terms.specs.Refusals.{policyNotKnown, sizeNotKnown, tooManyPages, sheetTooLong}
 use Rattle.text.specs.Text.{bytes, same}
 use Rattle.sheets.specs.Number.{Value, means, wrong, whole, missCost}
@@ -30,12 +30,12 @@ pub data PolicyValue : Type 0 where
   named : ℕ → PolicyValue
   blank unknown : PolicyValue
 
+abbrev pub namedIn : List Named → List ℕ → PolicyValue
+namedIn [] s = unknown
+namedIn (p ∷ l) s = if same s (bytes (p .name)) then named (p .number) else namedIn l s
+
 abbrev pub policyValue : List ℕ → PolicyValue
-policyValue s =
-    if same s (bytes "") then blank
-    else if same s (bytes "car") then named car
-    else if same s (bytes "cart") then named cart
-    else unknown
+policyValue s = if same s (bytes "") then blank else namedIn policies s
 
 abbrev pub policyMeant : PolicyValue → Value
 policyMeant (named policy) = means policy

@@ -5,6 +5,7 @@ use mathlib.Core.Bool.{true}
 use mathlib.Core.List.{List}
 use Prim.Native.Nat.{ℕ, _^_, _/_, _%_, _≤_, _<_}
 use Rattle.terms.specs.Choice.{∣_∣, allAtMost}
+use Rattle.terms.specs.Policies.{knownPolicy}
 use Rattle.sheets.specs.Number.{means, allDigits, value, digitsForm, whole, beforeComma, afterComma, missCost}
 use Rattle.sheets.specs.Bid.{Bid, bid, refused, meaning}
 use Rattle.sheets.specs.Result.{Outcome, decimal, milliseconds, resultSheet}
@@ -46,7 +47,7 @@ ResultFits = (r : Outcome) → Fits r → ∣ resultSheet r ∣ ≤ 256
 
 -- What an accepted bid holds: policy, c, cost, the count of pages and every page in their ranges. [Bids]
 pub record InRange (b : Bid) : Type 0 where
-  pub policy-known : (1 ≤ b .policy) × (b .policy ≤ 2)
+  pub policy-known : knownPolicy (b .policy) ≡ true
   pub size-known : (1 ≤ b .c) × (b .c ≤ 1024)
   pub cost-at-most : b .cost ≤ 9999999
   pub pages-at-most : ∣ b .pages ∣ ≤ 1000

@@ -2,9 +2,9 @@
 -- The writer takes any numbers; only the policy has to be known.
 use mathlib.Core.List.{List, [], _∷_, _++_}
 use Prim.Native.Nat.{ℕ, zero, suc, _+_, _/_, _%_}
-use lib.Dec.{ltb, eqb}
+use lib.Dec.{ltb}
 use Rattle.terms.specs.Choice.{if_then_else_}
-use Rattle.terms.specs.Policies.{car}
+use Rattle.terms.specs.Policies.{policyName}
 use Rattle.text.specs.Text.{bytes}
 use Rattle.sheets.specs.Number.{zeroDigit, comma}
 use Rattle.sheets.specs.Lines.{lineFeed}
@@ -40,15 +40,12 @@ pub record Outcome : Type 0 where
   -- in thousandths of a millisecond
   pub wait : ℕ
 
-abbrev pub policyName : ℕ → List ℕ
-policyName policy = if eqb policy car then bytes "car" else bytes "cart"
-
 abbrev pub lineOf : List ℕ → List ℕ → List ℕ
 lineOf key value = key ++ (value ++ (lineFeed ∷ []))
 
 unfoldable pub resultSheet : Outcome → List ℕ
 resultSheet r =
-    lineOf (bytes "policy=") (policyName (r .policy))
+    lineOf (bytes "policy=") (bytes (policyName (r .policy)))
     ++ (lineOf (bytes "pages=") (decimal (r .pages))
     ++ (lineOf (bytes "requests=") (decimal (r .requests))
     ++ (lineOf (bytes "hits=") (decimal (r .hits))

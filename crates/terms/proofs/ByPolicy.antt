@@ -9,7 +9,7 @@ use Rattle.terms.specs.Policies.{car, cart, knownPolicy}
 pub by-policy : (P : ℕ → Type 0) → P car → P cart → (n : ℕ) → knownPolicy n ≡ true → P n
 by-policy P of-car of-cart n known = go (eqb n car) (eqb n cart) known (eqb-true n car) (eqb-true n cart)
   where
-    go : (one two : Bool) → one || two ≡ true → (one ≡ true → n ≡ car) → (two ≡ true → n ≡ cart) → P n
+    go : (one two : Bool) → one || (two || false) ≡ true → (one ≡ true → n ≡ car) → (two ≡ true → n ≡ cart) → P n
     go true two h is-car is-cart = subst P (sym (is-car refl)) of-car
     go false true h is-car is-cart = subst P (sym (is-cart refl)) of-cart
     go false false h is-car is-cart = absurd (false≢true h)

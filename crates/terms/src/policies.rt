@@ -1,11 +1,13 @@
-// The policies' numbers, and which numbers are a policy's.
-// The numbers are those of specs/Policies.
+// The policies' numbers and names, and which numbers are a policy's.
+// Both are those of specs/Policies.
 ghost use mathlib.Core.Path.{_≡_};
 ghost use Rattle.terms.specs.Policies.{knownPolicy};
 
 pub const CAR: u32 = 1;
 
 pub const CART: u32 = 2;
+pub const CAR_NAME: [u8; 3] = *b"car";
+pub const CART_NAME: [u8; 4] = *b"cart";
 
 pub fn known_policy(policy: u32) -> bool
     ensures { λ r. ⌜ r ≡ knownPolicy policy ⌝ }
