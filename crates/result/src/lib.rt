@@ -13,6 +13,9 @@ use terms::limits;
 use terms::policies;
 use terms::refusals;
 
+// The least number of lent bytes.
+const LEAST: usize = limits::LEAST_RESULT_BYTES;
+
 // What the sheet says, the wait in thousandths of a millisecond.
 pub struct Outcome {
     pub policy: u32,
@@ -134,8 +137,8 @@ fn put_wait(out: &mut [u8], at: usize, wait: u64) -> usize
     ensures { λ r. ⌜ Put (now (out .entry)) at (lineOf (bytes "wait=") (milliseconds wait)) (now (out .exit)) r ⌝ }
 {
     let next = put(out, at, b"wait=");
-    let last = put_milliseconds(out, next, wait);
-    put_byte(out, last, 10)
+    let end = put_milliseconds(out, next, wait);
+    put_byte(out, end, 10)
 }
 
 // Puts the five lines of the run's tally.
@@ -171,7 +174,7 @@ pub fn write(out: &mut [u8], outcome: Outcome) -> Written
             count: 0,
         };
     }
-    if out.len() < limits::LEAST_RESULT_BYTES {
+    if out.len() < LEAST {
         return Written {
             number: refusals::BUFFER_TOO_SHORT,
             count: 0,
@@ -187,7 +190,7 @@ pub fn write(out: &mut [u8], outcome: Outcome) -> Written
 pub fn write_refusal(out: &mut [u8], number: u32, line: u32) -> Written
     ensures { λ r. ⌜ WroteRefusal number line (now (out .entry)) r (now (out .exit)) ⌝ }
 {
-    if out.len() < limits::LEAST_RESULT_BYTES {
+    if out.len() < LEAST {
         return Written {
             number: refusals::BUFFER_TOO_SHORT,
             count: 0,
@@ -233,7 +236,7 @@ pub fn write_request(
 ) -> Written
     ensures { λ r. ⌜ WroteRequest request page kind evicted list moves (now (out .entry)) r (now (out .exit)) ⌝ }
 {
-    if out.len() < limits::LEAST_RESULT_BYTES {
+    if out.len() < LEAST {
         return Written {
             number: refusals::BUFFER_TOO_SHORT,
             count: 0,

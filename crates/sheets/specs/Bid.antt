@@ -2,7 +2,7 @@
 -- "The first line that is wrong decides the refusal, and its number from 1 is given with it".
 use mathlib.Core.List.{List, [], _∷_}
 use Prim.Native.Nat.{ℕ, suc, _+_}
-use lib.Dec.{ltb}
+use lib.Dec.{leb, ltb}
 use Rattle.terms.specs.Choice.{if_then_else_, ∣_∣}
 use Rattle.terms.specs.Limits.{mostPages, mostSheetBytes, knownSize}
 use Rattle.terms.specs.Policies.{Named, car, policies}

@@ -3,3 +3,4 @@ pub mod Choice
 pub mod Limits
 pub mod Policies
 pub mod Refusals
+pub mod Examples

@@ -6,7 +6,9 @@ ghost use Rattle.terms.specs.Policies.{knownPolicy};
 pub const CAR: u32 = 1;
 
 pub const CART: u32 = 2;
+
 pub const CAR_NAME: [u8; 3] = *b"car";
+
 pub const CART_NAME: [u8; 4] = *b"cart";
 
 pub fn known_policy(policy: u32) -> bool

@@ -1,0 +1,37 @@
+-- Limits, policies and refusal numbers at their edges, each as document 01 says it.
+use mathlib.Core.Path.{_≡_}
+use mathlib.Core.Bool.{true, false}
+use mathlib.Core.List.{List, [], _∷_}
+use Prim.Native.Nat.{ℕ}
+use Rattle.terms.specs.Limits.{mostPages, mostSheetBytes, leastResultBytes, knownSize}
+use Rattle.terms.specs.Policies.{knownPolicy, policyName}
+use Rattle.terms.specs.Refusals.{accepted, policyNotKnown, sizeNotKnown, wrongLength, notSound, tooManyPages}
+use Rattle.terms.specs.Refusals.{bufferTooShort, sheetTooLong, noSuchLine, notInForm}
+
+-- "c = 1,024 is taken, 0 and 1,025 refused"; "at most 1,000 pages", "at most 16,000 bytes", "at least 256 lent bytes"
+pub record Edges : Type 0 where
+  pub no-page : knownSize 0 ≡ false
+  pub one-page : knownSize 1 ≡ true
+  pub most-pages : knownSize 1024 ≡ true
+  pub one-too-many : knownSize 1025 ≡ false
+  pub trace : mostPages ≡ 1000
+  pub sheet : mostSheetBytes ≡ 16000
+  pub result : leastResultBytes ≡ 256
+
+-- "1 CAR, 2 CART"; "car or cart"
+pub record Numbered : Type 0 where
+  pub not-0 : knownPolicy 0 ≡ false
+  pub car-is-1 : knownPolicy 1 ≡ true
+  pub cart-is-2 : knownPolicy 2 ≡ true
+  pub not-3 : knownPolicy 3 ≡ false
+  pub car-named : policyName 1 ≡ "car"
+  pub cart-named : policyName 2 ≡ "cart"
+
+-- The table of refusals, in its order.
+abbrev pub table : List ℕ
+table =
+    accepted ∷ policyNotKnown ∷ sizeNotKnown ∷ wrongLength ∷ notSound ∷ tooManyPages
+    ∷ bufferTooShort ∷ sheetTooLong ∷ noSuchLine ∷ notInForm ∷ []
+
+abbrev pub InOrder : Type 0
+InOrder = table ≡ 0 ∷ 1 ∷ 2 ∷ 3 ∷ 4 ∷ 5 ∷ 6 ∷ 7 ∷ 8 ∷ 9 ∷ []
