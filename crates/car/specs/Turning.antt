@@ -12,7 +12,8 @@ use Rattle.terms.specs.Policies.{car}
 use Rattle.figures.specs.Sound.{sound}
 use Rattle.figures.specs.Hand.{Hand, Ends}
 use Rattle.figures.specs.Car.{choose}
-use Rattle.figures.specs.Request.{carPolicy, missed}
+use Rattle.figures.specs.Policy.{carPolicy}
+use Rattle.figures.specs.Request.{missed}
 
 -- A sound directory of CAR that is full.
 pub record Full (w : List ℕ) : Type 0 where

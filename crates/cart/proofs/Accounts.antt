@@ -11,10 +11,9 @@ use Rattle.terms.proofs.Choice.{either}
 use Rattle.figures.specs.Entry.{Entry, Filter, L, cleared, bits, shortOf, longOf, short, long, total}
 use Rattle.figures.specs.Directory.{Directory, unit, T1, T2, withList, withQ, toTail, cached, remembered, inCache}
 use Rattle.figures.specs.Words.{nT1, nT2, encode, decode}
-use Rattle.figures.specs.Cart.{cost, raise, lower}
+use Rattle.figures.specs.Cart.{cost, owing, raise, lower}
 use Rattle.laws.proofs.Lists.{entryOf, length-tail, total-tail, short-or-long, short-and-long}
 use Rattle.laws.proofs.Encoding.{decoded}
-use Rattle.laws.proofs.Cart.{owing}
 use Rattle.entries.specs.Stretches.{Room}
 use Rattle.entries.proofs.Laid.{header}
 use Rattle.entries.proofs.Rooms.{roomy}

@@ -13,6 +13,8 @@ use Rattle.figures.specs.Hand.{Hand, Look, Ends}
 use Rattle.figures.specs.Cart.{cost, firstLook, secondLook, firstPass, secondPass, counted}
 use Rattle.laws.proofs.Lists.{total-append, total-at-most, bits-at-most-one, short-and-long}
 use Rattle.laws.proofs.Repeats.{ends-once}
+use Rattle.laws.proofs.Facts.{CartFacts}
+use Rattle.laws.proofs.Soundness.{cart-iff}
 use Rattle.laws.proofs.Cart.{cost-at-most-two, cart-stops}
 use Rattle.entries.specs.Leaves.{OfEntries}
 use Rattle.entries.specs.Stretches.{ofFlag}
@@ -24,6 +26,9 @@ use Rattle.cart.proofs.Accounts.{passing}
 
 pub held : {w : List ℕ} → Full w → Filled cart w
 held f = filled (f .is-sound) (f .is-cart) (f .is-full)
+
+pub own : {w : List ℕ} → Full w → CartFacts (decode w)
+own {w} f = cart-iff (decode w) .0 (held f .own)
 
 -- What `count` says of the entries of T1 and T2.
 module _ {w : List ℕ} (f : Full w) (longs : ℕ) (counts : OfEntries w 8 (nT1 w + nT2 w) (λ l. longs ≡ total (ofFlag 2) l)) where
@@ -37,6 +42,7 @@ module _ {w : List ℕ} (f : Full w) (longs : ℕ) (counts : OfEntries w 8 (nT1 
   pub begins-passing : Passing w (nT1 w + nT2 w - longs) longs 0
   begins-passing =
       let a = held f in
+      let o = own f in
       let d = decode w in
       let r = header d w (a .is) in
       let n = counts-longs in
@@ -54,6 +60,6 @@ pub passes-end : {w w₁ w₂ : List ℕ} {nS nL nS₁ nL₁ moves₁ nS₂ nL�
     → Holds (secondPass (firstPass (counted (decode w)))) w₂ nS₂ nL₂ moves₂
 passes-end {w} {nS = nS} {nL = nL} f p first second =
     let a = held f in
-    let stops = cart-stops (decode w) (a .shared) (a .own) (a .full) in
+    let stops = cart-stops (decode w) (a .shared) (own f) (a .full) in
     let begins : Holds (counted (decode w)) w nS nL 0 = record { words-are = p .is; short-is = p .shorts; long-is = p .longs; moves-is = refl } in
     ended-at (stops .second) (second _ (ended-at (stops .first) (first (counted (decode w)) begins)))

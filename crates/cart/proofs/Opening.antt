@@ -11,16 +11,16 @@ use Rattle.entries.specs.Stretches.{Room}
 use Rattle.entries.proofs.Laid.{header}
 use Rattle.entries.proofs.Rooms.{freed}
 use Rattle.cart.specs.Passing.{Full, Holds, Opened}
-use Rattle.cart.proofs.Evicting.{held}
+use Rattle.cart.proofs.Evicting.{held, own}
 
 pub opened : {w W : List ℕ} {nS nL moves : ℕ} → Full w → Holds (evict (decode w)) W nS nL moves → Room W × Opened W nS nL
 opened {w} {W} f holds =
     let a = held f in
     let d = decode w in
     let d′ = evict d .dir in
-    let opens = cart-opens d (a .shared) (a .own) (a .full) in
-    let own = cart-opened d (a .shared) (a .own) (a .full) in
-    let counts = cart-counts d (a .shared) (a .own) (a .full) in
+    let opens = cart-opens d (a .shared) (own f) (a .full) in
+    let kept = cart-opened d (a .shared) (own f) (a .full) in
+    let counts = cart-counts d (a .shared) (own f) (a .full) in
     let o = freed a d′ (holds .words-are) opens in
     let h = header d′ W (holds .words-are) in
     let in-t1 = short-and-long (d′ .t1) in
@@ -31,7 +31,7 @@ opened {w} {W} f holds =
         c-least = o .c-least;
         c-most = o .c-most;
         p-fits = o .p-fits;
-        q-fits = omega (arith, own .q-fits);
+        q-fits = omega (arith, kept .q-fits);
         room = o .one-free;
         history-most = o .history-most;
         shorts = omega (arith, holds .short-is, counts .0);

@@ -14,7 +14,8 @@ use Rattle.figures.specs.Words.{flags, encode, decode, size, nT1, nT2, nB1, nB2
 use Rattle.figures.specs.Sound.{sound}
 use Rattle.figures.specs.Hand.{Hand, Look, again, Ends}
 use Rattle.figures.specs.Cart.{cost, demotion}
-use Rattle.figures.specs.Request.{cartPolicy, missed}
+use Rattle.figures.specs.Policy.{cartPolicy}
+use Rattle.figures.specs.Request.{missed}
 use Rattle.cart.specs.declared.Kept.{Kept}
 use Rattle.cart.specs.declared.Evicted.{Evicted}
 

@@ -7,16 +7,16 @@ use native.Mathlib.Numerals.{add-one}
 use native.Mathlib.Omega.{arith}
 use lib.ListN.{getD, set, take, drop, length-append, drop-of-length-le}
 use lib.Seq.{drop-cons, drop-drop, drop-append-add, take-at, sets-eq}
-use lib.Dec.{eqb}
 use Rattle.terms.specs.Choice.{∣_∣}
-use Rattle.terms.specs.Policies.{car}
-use Rattle.terms.proofs.Choice.{either}
+use Rattle.terms.proofs.ByPolicy.{by-policy}
 use Rattle.figures.specs.Words.{encode, decode}
+use Rattle.figures.specs.Policy.{policyOf}
 use Rattle.figures.specs.Request.{Served, answer, request}
 use Rattle.figures.specs.Run as Run
 use Rattle.figures.specs.Run.{Ran, zeroTally, before, runFrom, run}
 use Rattle.figures.specs.Demands.{mostMoves}
 use Rattle.laws.proofs.Encoding.{decode-encode}
+use Rattle.laws.proofs.Soundness.{facts-of-words}
 use Rattle.laws.proofs.Moves.{request-moves-at-most}
 use Rattle.entries.proofs.Laid.{header}
 use Rattle.tally.specs.declared.Tally.{Tally}
@@ -39,7 +39,8 @@ pub moves-counted : {w : List ℕ} → Ready w → (x : ℕ) → request x (deco
 moves-counted {w} r x =
     let h = header (decode w) w (words-held r) in
     let most : mostMoves (decode w) ≤ 2049 =
-    either (λ (n : ℕ). n ≤ 2049) (eqb (decode w .policy) car) (omega arith) (omega arith) in
+    by-policy (λ n. policyOf n .mostMoves (decode w .c) ≤ 2049) (omega arith) (omega arith) (decode w .policy)
+    (facts-of-words w (r .is-sound) .known) in
     omega (arith, request-moves-at-most x (decode w) (decoded-sound w (r .is-sound)))
 
 -- After i requests the words are v and the buffer is `given`: the answers so far stand in front, and what is left of the

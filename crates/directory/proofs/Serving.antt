@@ -1,21 +1,21 @@
 -- One request of a sound directory in the words: what each way through `serve` comes to.
 -- Assumes nothing.
 use mathlib.Core.Path.{_≡_, refl, sym, ap, _∙_, subst⁻¹}
-use mathlib.Core.Bool.{Bool, true, false, _||_}
+use mathlib.Core.Bool.{true, false, _||_}
 use mathlib.Core.List.{List, _++_}
 use Prim.Native.Nat.{ℕ, _+_, _≤_, _<_}
 use native.Mathlib.Omega.{arith}
 use lib.ListN.{getD, length-append}
-use lib.Dec.{eqb}
-use borrow.Author.Tests.{eqb-true, eq-eqb, ne-eqb}
-use Rattle.terms.specs.Choice.{if_then_else_, ∣_∣}
+use borrow.Author.Tests.{eq-eqb, ne-eqb}
+use Rattle.terms.specs.Choice.{∣_∣}
 use Rattle.terms.specs.Policies.{car, cart}
-use Rattle.terms.proofs.Choice.{either}
+use Rattle.terms.proofs.ByPolicy.{by-policy}
 use Rattle.figures.specs.Entry.{has}
-use Rattle.figures.specs.Directory.{Directory, placeNew, cached}
+use Rattle.figures.specs.Directory.{Directory, hit, placeNew, cached}
 use Rattle.figures.specs.Words.{encode, decode, size, nT1, nT2}
+use Rattle.figures.specs.Policy.{Policy, carPolicy, cartPolicy, policyOf}
 use Rattle.figures.specs.Sound.{sound}
-use Rattle.figures.specs.Request.{Policy, carPolicy, cartPolicy, policyOf, Served, still, hit, missed, request}
+use Rattle.figures.specs.Request.{Served, still, missed, request}
 use Rattle.figures.specs.Demands.{Sound}
 use Rattle.laws.proofs.Encoding.{encode-decode, words-fit}
 use Rattle.laws.proofs.Soundness.{facts-of-words}
@@ -64,18 +64,20 @@ module _ {w : List ℕ} (r : Ready w) where
   room = roomy d words-held (omega (arith, held, r)) (omega (arith, held, r))
 
   -- the policy that it names
-  pub names-car : getD w 0 0 ≡ car → policyOf (d .policy) ≡ carPolicy
-  names-car is = ap (λ (b : Bool). if b then carPolicy else cartPolicy) (eq-eqb (d .policy) car (omega (arith, held)))
-
-  pub names-cart : (getD w 0 0 ≡ car → ⊥) → policyOf (d .policy) ≡ cartPolicy
-  names-cart is-not = ap (λ (b : Bool). if b then carPolicy else cartPolicy) (ne-eqb (d .policy) car (λ is. is-not (held .policy ∙ is)))
+  by-named : (P : ℕ → Type 0) → P car → P cart → P (d .policy)
+  by-named P of-car of-cart = by-policy P of-car of-cart (d .policy) (facts-of-words w (r .is-sound) .known)
 
   pub other-is-cart : (getD w 0 0 ≡ car → ⊥) → getD w 0 0 ≡ cart
   other-is-cart is-not =
       held .policy
-      ∙ eqb-true (d .policy) cart
-      (ap (λ (b : Bool). b || eqb (d .policy) cart) (sym (ne-eqb (d .policy) car (λ is. is-not (held .policy ∙ is))))
-      ∙ facts-of-words w (r .is-sound) .known)
+      ∙ by-named (λ n. (n ≡ car → ⊥) → n ≡ cart) (λ not-car. absurd (not-car refl)) (λ not-car. refl)
+      (λ is. is-not (held .policy ∙ is))
+
+  pub names-car : getD w 0 0 ≡ car → policyOf (d .policy) ≡ carPolicy
+  names-car is = ap policyOf (sym (held .policy) ∙ is)
+
+  pub names-cart : (getD w 0 0 ≡ car → ⊥) → policyOf (d .policy) ≡ cartPolicy
+  names-cart is-not = ap policyOf (sym (held .policy) ∙ other-is-cart is-not)
 
   -- a request leaves it sound
   pub ready-again : (x : ℕ) (w′ : List ℕ) → w′ ≡ encode (request x d .dir) → Ready w′
@@ -106,7 +108,8 @@ module _ {w : List ℕ} (r : Ready w) where
       pub tells-hit : k < n → w′ ≡ encode (hit x d) → Tells (request x d) 0 0 0 0 w′ × Ready w′
       tells-hit inside are =
           let there = index-has x (d .t1 ++ d .t2) (omega (arith, place, length-append (d .t1) (d .t2), held)) in
-          tells-as (serve-hit (policyOf (d .policy)) x d (sym (has-append x (d .t1) (d .t2)) ∙ there)) are
+          let marks = by-named (λ n. still 0 (policyOf n .hit x d) ≡ still 0 (hit x d)) refl refl in
+          tells-as (serve-hit (policyOf (d .policy)) x d (sym (has-append x (d .t1) (d .t2)) ∙ there) ∙ marks) are
 
       missed-cache : n ≤ k → has x (d .t1) || has x (d .t2) ≡ false
       missed-cache outside =
@@ -114,8 +117,7 @@ module _ {w : List ℕ} (r : Ready w) where
 
       pub tells-room : n ≤ k → n < size w → w′ ≡ encode (placeNew x d) → Tells (request x d) 1 0 0 0 w′ × Ready w′
       tells-room outside free are =
-          tells-as (serve-room (policyOf (d .policy)) x d (missed-cache outside) (ne-eqb (cached d) (d .c) (λ e. omega (arith, held)))
-          ∙ either (λ (π : Policy). still 1 (π .placeNew x d) ≡ still 1 (placeNew x d)) (eqb (d .policy) 1) refl refl) are
+          tells-as (serve-room (policyOf (d .policy)) x d (missed-cache outside) (ne-eqb (cached d) (d .c) (λ e. omega (arith, held)))) are
 
       pub tells-full : (π : Policy) → policyOf (d .policy) ≡ π → n ≤ k → size w ≤ n → {kind page list moves : ℕ}
           → Tells (missed π x (π .evict d)) kind page list moves w′ → Tells (request x d) kind page list moves w′ × Ready w′

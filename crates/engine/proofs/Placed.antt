@@ -4,9 +4,10 @@ use mathlib.Core.Path.{_≡_, sym, ap, _∙_, subst}
 use mathlib.Core.Bool.{true, false}
 use Prim.Native.Nat.{ℕ}
 use Rattle.figures.specs.Entry.{has}
-use Rattle.figures.specs.Directory.{Directory}
+use Rattle.figures.specs.Directory.{Directory, placeNew}
 use Rattle.figures.specs.Hand.{Hand}
-use Rattle.figures.specs.Request.{Policy, Served, missed}
+use Rattle.figures.specs.Policy.{Policy}
+use Rattle.figures.specs.Request.{Served, missed}
 use Rattle.laws.proofs.Requests.{missed-B1, missed-B2, missed-new, missed-page, missed-list, missed-moves, missed-cleared}
 use Rattle.engine.specs.declared.Evicted.{Evicted}
 use Rattle.engine.specs.Shown.{EvictedAs, PlacedAs, Tells}
@@ -25,7 +26,7 @@ module _ {W : Type 0} (Shows : Directory → W → Type 0) (π : Policy) (x : �
   placed-B2 not-b1 found shown = placed-as (missed-B2 π x h not-b1 found) shown
 
   pub placed-new : has x (h .dir .b1) ≡ false → has x (h .dir .b2) ≡ false
-      → Shows (π .placeNew x (π .trim (h .dir))) w → PlacedAs Shows π x h 2 w
+      → Shows (placeNew x (π .trim (h .dir))) w → PlacedAs Shows π x h 2 w
   placed-new not-b1 not-b2 shown = placed-as (missed-new π x h not-b1 not-b2) shown
 
   -- The whole answer: the evicted page, its list and what was counted are the hand's.

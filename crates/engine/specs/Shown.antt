@@ -5,8 +5,9 @@ use Prim.Native.Nat.{ℕ}
 use Rattle.figures.specs.Directory.{Directory}
 use Rattle.figures.specs.Hand as Hand
 use Rattle.figures.specs.Hand.{Look, Ends}
+use Rattle.figures.specs.Policy.{Policy}
 use Rattle.figures.specs.Request as Request
-use Rattle.figures.specs.Request.{Policy, missed}
+use Rattle.figures.specs.Request.{missed}
 use Rattle.engine.specs.declared.Hand.{Hand as Counted}
 use Rattle.engine.specs.declared.Evicted.{Evicted}
 use Rattle.engine.specs.declared.Served.{Served}

@@ -10,8 +10,7 @@ use lib.ListN.{length, getD, set, take, drop, length-append, length-drop, take-a
 use lib.Seq.{length-take-le, set-set, set-comm, set-getD}
 use Rattle.terms.specs.Choice.{if_then_else_, ∣_∣}
 use Rattle.figures.specs.Entry.{Entry, newShort, cleared, marked, has, mark, without, dropHead}
-use Rattle.figures.specs.Directory.{Directory, T1, T2, listOf, withList, toTail, placeNew, cached, remembered, listed}
-use Rattle.figures.specs.Request.{hit}
+use Rattle.figures.specs.Directory.{Directory, T1, T2, listOf, withList, toTail, hit, placeNew, cached, remembered, listed}
 use Rattle.figures.specs.Words.{flags, words, zeros, encode}
 use Rattle.laws.proofs.Lists.{HasHead, has-head, length-tail, length-marked, length-head-dropped, length-without}
 use Rattle.entries.specs.Stretches.{nameOf, startOf, index}

@@ -5,9 +5,11 @@ use mathlib.Core.Bool.{true, false}
 use mathlib.Core.List.{List}
 use Prim.Native.Nat.{ℕ}
 use Rattle.figures.specs.Entry.{has}
+use Rattle.figures.specs.Directory.{placeNew}
 use Rattle.figures.specs.Words.{encode}
 use Rattle.figures.specs.Hand.{Hand}
-use Rattle.figures.specs.Request.{Policy, Served, missed}
+use Rattle.figures.specs.Policy.{Policy}
+use Rattle.figures.specs.Request.{Served, missed}
 use Rattle.laws.proofs.Requests.{missed-B1, missed-B2, missed-new, missed-page, missed-list, missed-moves}
 use Rattle.entries.specs.Answers.{Tells}
 
@@ -26,7 +28,7 @@ module _ (π : Policy) (x : ℕ) (h : Hand) where
   placed-B2 not-b1 found words = placed-as (missed-B2 π x h not-b1 found) words
 
   pub placed-new : {w : List ℕ} → has x (h .dir .b1) ≡ false → has x (h .dir .b2) ≡ false
-      → w ≡ encode (π .placeNew x (π .trim (h .dir))) → Placed 2 w
+      → w ≡ encode (placeNew x (π .trim (h .dir))) → Placed 2 w
   placed-new not-b1 not-b2 words = placed-as (missed-new π x h not-b1 not-b2) words
 
   -- The whole answer: the evicted page, its list and the moves are the hand's.

@@ -6,13 +6,12 @@ use mathlib.Core.List.{List}
 use Prim.Native.Nat.{ℕ, _+_, _*_, _≤_}
 use native.Mathlib.Omega.{arith}
 use lib.ListN.{getD}
-use lib.Dec.{eqb}
-use Rattle.terms.specs.Choice.{if_then_else_, ∣_∣}
-use Rattle.terms.specs.Policies.{car}
+use Rattle.terms.specs.Choice.{∣_∣}
 use Rattle.figures.specs.Directory.{Directory, unit, cached, remembered}
 use Rattle.figures.specs.Words.{encode, decode, size, nT1, nT2, nB1, nB2}
+use Rattle.figures.specs.Policy.{policyOf}
 use Rattle.figures.specs.Sound.{sound}
-use Rattle.laws.proofs.Facts.{CarFacts, CartFacts, Shared, Opened, own-by}
+use Rattle.laws.proofs.Facts.{Shared, Opened, own-by}
 use Rattle.laws.proofs.Encoding.{encoded, encode-decode, words-fit}
 use Rattle.laws.proofs.Soundness.{facts-of-words}
 use Rattle.entries.specs.Stretches.{Room, startOf}
@@ -26,7 +25,7 @@ roomy d is fits small = let n = words-fit d fits in subst Room is (record { shor
 pub record Filled (policy : ℕ) (w : List ℕ) : Type 0 where
   pub is : encode (decode w) ≡ w
   pub shared : Shared (decode w)
-  pub own : if eqb policy car then CarFacts (decode w) else CartFacts (decode w)
+  pub own : policyOf policy .ownSound (encode (decode w)) ≡ true
   pub full : cached (decode w) ≡ decode w .c
   pub room : Room w
 

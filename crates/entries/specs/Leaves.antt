@@ -5,9 +5,8 @@ use mathlib.Core.List.{List, _∷_, _++_}
 use Prim.Native.Nat.{ℕ, _+_, _*_, _≤_}
 use Rattle.terms.specs.Choice.{∣_∣}
 use Rattle.figures.specs.Entry.{Entry, cleared, without, dropHead, total}
-use Rattle.figures.specs.Directory.{Directory, T1, T2, listOf, withList, toTail, cached, remembered}
+use Rattle.figures.specs.Directory.{Directory, T1, T2, listOf, withList, toTail, hit, cached, remembered}
 use Rattle.figures.specs.Words.{flags, words, encode}
-use Rattle.figures.specs.Request.{hit}
 use Rattle.entries.specs.Stretches.{nameOf, index, ofFlag}
 
 -- The words of a directory become those of what f makes of it.

@@ -1,9 +1,8 @@
 -- P1 to P12, the errors that look right and the limits of soundness, by computation.
--- Assumes nothing.
 use mathlib.Core.Path.{refl}
 use Rattle.figures.specs.Directory.{placeNew}
 use Rattle.figures.specs.Words.{decode}
-use Rattle.figures.specs.Sound.{carSound, cartSound, sound}
+use Rattle.figures.specs.Sound.{sound}
 use Rattle.figures.specs.Hand.{repeat}
 use Rattle.figures.specs.Car as Car
 use Rattle.figures.specs.Cart as Cart
@@ -16,5 +15,5 @@ unfolding holds placeNew runFrom serve missed repeat Car.evict Car.trim Car.plac
 cases-hold = refl
 
 pub limits-hold : LimitsHold
-unfolding sound carSound cartSound decode
+unfolding sound Car.carSound Cart.cartSound decode
 limits-hold = refl

@@ -1,13 +1,25 @@
 -- CAR, Figure 2 of Bansal and Modha: evict (its replace(), lines 22 to 39), trim (lines 6 to 10), place (lines 14 to 19).
 -- Sizes are those at the moment a rule is read; quotients are whole, and the page itself still counts in them.
+use mathlib.Core.Bool.{Bool}
 use mathlib.Core.List.{List, [], _∷_}
 use Prim.Native.Nat.{ℕ, suc, _+_, _-_, _*_, _/_, max, min}
-use lib.Dec.{eqb}
-use Rattle.terms.specs.Choice.{if_then_else_, ∣_∣}
-use Rattle.figures.specs.Entry.{Entry, newShort, cleared, bits, without, dropHead}
+use lib.ListN.{getD}
+use lib.Dec.{leb, eqb}
+use Rattle.terms.specs.Choice.{if_then_else_, ∣_∣, every}
+use Rattle.figures.specs.Entry.{Entry, newShort, cleared, bits, long, noneOf, without, dropHead}
 use Rattle.figures.specs.Directory.{Directory, unit, Name, T1, T2, B1, B2, withList, withP, toTail}
-use Rattle.figures.specs.Directory.{cached, remembered, inCache, t1AtTarget}
+use Rattle.figures.specs.Directory.{cached, remembered, listed, inCache, t1AtTarget}
+use Rattle.figures.specs.Words.{decode, size, nT1, nB1}
 use Rattle.figures.specs.Hand.{Hand, begin, turn, demote, Look, again, stop, none, repeat}
+
+-- "for CAR also q = 0, no filter bit, |T1|+|B1| ≤ c"
+unfoldable pub carSound : List ℕ → Bool
+carSound w =
+    every (
+    eqb (getD w 3 0) 0
+    ∷ noneOf long (listed (decode w))
+    ∷ leb (nT1 w + nB1 w) (size w)
+    ∷ [])
 
 -- The look at the head of clock i with history b: lines 25 to 30 at T1, lines 32 to 37 at T2.
 abbrev pub look : Name → Name → List Entry → Hand → Look

@@ -1,15 +1,26 @@
 -- CART, Figure 3 of Bansal and Modha: evict (its replace(), lines 23 to 40), trim (lines 6 to 10), place (lines 14 to 20).
 -- n_S and n_L are counted when a request begins and then kept as the figure keeps them.
 use mathlib.Core.Bool.{Bool, _||_}
-use mathlib.Core.List.{List, [], _∷_}
+use mathlib.Core.List.{List, [], _∷_, _++_}
 use Prim.Native.Nat.{ℕ, suc, _+_, _-_, _*_, _/_, max, min}
+use lib.ListN.{getD}
 use lib.Dec.{leb, ltb, eqb}
-use Rattle.terms.specs.Choice.{if_then_else_, ∣_∣}
+use Rattle.terms.specs.Choice.{if_then_else_, ∣_∣, every}
 use Rattle.figures.specs.Entry.{Entry, Filter, S, L, newLong, cleared, madeLong}
-use Rattle.figures.specs.Entry.{bits, short, long, total, without, dropHead}
+use Rattle.figures.specs.Entry.{bits, short, long, total, noneOf, without, dropHead}
 use Rattle.figures.specs.Directory.{Directory, unit, T1, T2, B1, B2, withList, withP, withQ, toTail}
 use Rattle.figures.specs.Directory.{remembered, inCache, t1AtTarget}
+use Rattle.figures.specs.Words.{decode, size}
 use Rattle.figures.specs.Hand.{Hand, begin, withDir, withCounts, turn, demote, Look, again, stop, repeat}
+
+-- "for CART also q ≤ 2c, every entry of T2 and B2 is L, every entry of B1 is S"
+unfoldable pub cartSound : List ℕ → Bool
+cartSound w =
+    every (
+    leb (getD w 3 0) (2 * size w)
+    ∷ noneOf short (decode w .t2 ++ decode w .b2)
+    ∷ noneOf long (decode w .b1)
+    ∷ [])
 
 -- "Raise q", lines 20 and 25. n_S counts pages of T1 and T2, so the difference is not below zero.
 abbrev pub raise : ℕ → Directory → Directory
@@ -57,6 +68,10 @@ lookT1 (e ∷ es) h =
 -- What an entry of T1 can still cost the hand before a page is demoted: a move to T1's tail and one to T2's.
 abbrev pub cost : Entry → ℕ
 cost e = if e .bit then 2 else long e
+
+-- The same of T1 and T2: a set bit of T2 costs a move to T1 and one back.
+abbrev pub owing : Directory → ℕ
+owing d = total cost (d .t1) + 2 * total bits (d .t2)
 
 abbrev pub firstLook : Hand → Look
 firstLook h = lookT2 (h .dir .t2) h

@@ -5,23 +5,31 @@ use mathlib.Core.Bool.{true, false, _||_}
 use mathlib.Core.Logic.{_⊎_}
 use mathlib.Core.List.{List, [], _∷_, _++_}
 use Prim.Native.Nat.{ℕ, zero, suc, _+_, _*_, _≤_, _<_}
-use lib.Dec.{eqb}
-use Rattle.terms.specs.Choice.{if_then_else_, ∣_∣}
+use Rattle.terms.specs.Choice.{∣_∣}
 use Rattle.terms.specs.Limits.{knownSize}
 use Rattle.terms.specs.Policies.{car, cart, knownPolicy}
 use Rattle.figures.specs.Entry.{Entry, bits, short, long, total, has}
 use Rattle.figures.specs.Directory.{Directory, fresh, Name, B1, B2, listOf, withList}
 use Rattle.figures.specs.Directory.{cached, remembered, inCache, t1AtTarget}
 use Rattle.figures.specs.Words.{encode, decode}
-use Rattle.figures.specs.Sound.{sound}
 use Rattle.figures.specs.Hand.{Hand, begin, Ends, Leads}
 use Rattle.figures.specs.Car as Car
 use Rattle.figures.specs.Cart as Cart
-use Rattle.figures.specs.Request.{policyOf, request}
+use Rattle.figures.specs.Policy.{Policy, policyOf}
+use Rattle.figures.specs.Sound.{sound}
+use Rattle.figures.specs.Request.{request}
 use Rattle.figures.specs.Run.{run}
 
 abbrev pub Sound : Directory → Type 0
 Sound d = sound (encode d) ≡ true
+
+-- The row that a directory names.
+abbrev pub rowOf : Directory → Policy
+rowOf d = policyOf (d .policy)
+
+-- Every known number is that of its row. [Lawful]
+abbrev pub RowsNumbered : Type 0
+RowsNumbered = (n : ℕ) → knownPolicy n ≡ true → policyOf n .number ≡ n
 
 -- THE WORDS
 
@@ -56,6 +64,10 @@ RequestKeeps = (x : ℕ) (d : Directory) → Sound d → Kept x d
 abbrev pub WhenFull : (Directory → Type 0) → Type 0
 WhenFull P = (d : Directory) → Sound d → cached d ≡ d .c → P d
 
+-- The same of the directories of one policy.
+abbrev pub WhenFullUnder : ℕ → (Directory → Type 0) → Type 0
+WhenFullUnder n P = WhenFull (λ d. d .policy ≡ n → P d)
+
 -- "No budget may decide where the defined evict part ends: .. from every sound directory the published stop comes first."
 -- The repeat that knows no budget ends where the definition does. CAR's asks for no head that is not there: `Ends` has
 -- no rule for that. CART's passes also stop at an empty list; that the demotion has a head is in EvictsOne. [Stops]
@@ -67,8 +79,9 @@ pub record CartStops (d : Directory) : Type 0 where
   pub second :
       Ends Cart.secondLook (Cart.firstPass (Cart.counted d)) (Cart.secondPass (Cart.firstPass (Cart.counted d)))
 
-abbrev pub PublishedStopComesFirst : Type 0
-PublishedStopComesFirst = WhenFull (λ d. if eqb (d .policy) car then CarStops d else CartStops d)
+pub record PublishedStopComesFirst : Type 0 where
+  pub of-car : WhenFullUnder car CarStops
+  pub of-cart : WhenFullUnder cart CartStops
 
 -- "once T2 is chosen, T1 is not chosen again in that request": whatever hand CAR's looks lead to. [Car]
 abbrev pub T2StaysChosen : Type 0
@@ -78,26 +91,30 @@ T2StaysChosen = (a z : Hand) → Leads Car.choose a z → t1AtTarget (a .dir) �
 abbrev pub byPage : (ℕ → ℕ) → Entry → ℕ
 byPage count e = count (e .page)
 
--- One page goes from T1 or T2, of which the chosen one is not empty, to a history, and its reference bit is clear there;
--- it is the page that the answer names: by any count of pages, T1 and T2 count that one page less;
+-- One page goes from T1 or T2, of which the chosen one is not empty, and no reference bit is set in a history then; it
+-- is the page that the answer names: by any count of pages, T1 and T2 count that one page less;
 -- "bits set before equal bits set after plus bits cleared" (request 10 of 02). [Stops]
 pub record Evicts (d : Directory) (h : Hand) : Type 0 where
   pub from-T1-or-T2 : (1 ≤ h .list) × (h .list ≤ 2)
   pub one-less : cached (h .dir) + 1 ≡ cached d
-  pub one-more : remembered (h .dir) ≡ remembered d + 1
   pub page-leaves : (count : ℕ → ℕ) → inCache (byPage count) (h .dir) + count (h .page) ≡ inCache (byPage count) d
   pub demoted-clear : total bits (h .dir .b1) + total bits (h .dir .b2) ≡ 0
   pub bits-accounted : inCache bits d ≡ inCache bits (h .dir) + h .cleared
 
 abbrev pub EvictsOne : Type 0
-EvictsOne = WhenFull (λ d. Evicts d (policyOf (d .policy) .evict d))
+EvictsOne = WhenFull (λ d. Evicts d (rowOf d .evict d))
+
+-- CAR and CART remember that page: a history has one more. [Stops]
+pub record EvictedIsRemembered : Type 0 where
+  pub of-car : WhenFullUnder car (λ d. remembered (Car.evict d .dir) ≡ remembered d + 1)
+  pub of-cart : WhenFullUnder cart (λ d. remembered (Cart.evict d .dir) ≡ remembered d + 1)
 
 -- "n_S and n_L count the S and L pages in T1 and T2", also as Figure 3 has kept them when the evict part is over. [Stops]
 abbrev pub CountsKept : Type 0
 CountsKept =
-    WhenFull (λ d.
+    WhenFullUnder cart (λ d.
     let h = Cart.evict d in
-    d .policy ≡ cart → (h .nS ≡ inCache short (h .dir)) × (h .nL ≡ inCache long (h .dir)))
+    (h .nS ≡ inCache short (h .dir)) × (h .nL ≡ inCache long (h .dir)))
 
 -- Trim takes no head of an empty list: where its rule drops a head, that head was there. [Stops]
 
@@ -118,10 +135,9 @@ pub record CartTrimHasHead (d : Directory) : Type 0 where
   pub drops-B1 : remembered d ≡ d .c + 1 → (d .q < ∣ d .b1 ∣) ⊎ (∣ d .b2 ∣ ≡ 0) → HeadDropped B1 d (Cart.trim d)
   pub drops-B2 : remembered d ≡ d .c + 1 → ¬ ((d .q < ∣ d .b1 ∣) ⊎ (∣ d .b2 ∣ ≡ 0)) → HeadDropped B2 d (Cart.trim d)
 
-abbrev pub TrimHasHead : Type 0
-TrimHasHead =
-    WhenFull (λ d.
-    if eqb (d .policy) car then CarTrimHasHead (Car.evict d .dir) else CartTrimHasHead (Cart.evict d .dir))
+pub record TrimHasHead : Type 0 where
+  pub of-car : WhenFullUnder car (λ d. CarTrimHasHead (Car.evict d .dir))
+  pub of-cart : WhenFullUnder cart (λ d. CartTrimHasHead (Cart.evict d .dir))
 
 -- HAND MOVES
 
@@ -139,7 +155,7 @@ CarMovesAreBitsCleared =
 
 -- "no CAR request needs more than c + 1 hand moves, no CART request more than 2c + 1": from every sound directory. [Moves]
 abbrev pub mostMoves : Directory → ℕ
-mostMoves d = if eqb (d .policy) car then d .c + 1 else 2 * d .c + 1
+mostMoves d = rowOf d .mostMoves (d .c)
 
 abbrev pub RequestMovesAtMost : Type 0
 RequestMovesAtMost = (x : ℕ) (d : Directory) → Sound d → request x d .moves ≤ mostMoves d
@@ -147,10 +163,10 @@ RequestMovesAtMost = (x : ℕ) (d : Directory) → Sound d → request x d .move
 -- "over the whole sequence at most one, respectively two, a request": from every sound directory, with what its set
 -- bits, and for CART its L pages in T1, may still cost. [Moves]
 abbrev pub movesEach : Directory → ℕ
-movesEach d = if eqb (d .policy) car then 1 else 2
+movesEach d = rowOf d .movesEach
 
 abbrev pub owed : Directory → ℕ
-owed d = if eqb (d .policy) car then inCache bits d else total Cart.cost (d .t1) + 2 * total bits (d .t2)
+owed d = rowOf d .owed d
 
 abbrev pub RunMovesAtMost : Type 0
 RunMovesAtMost =

@@ -4,8 +4,8 @@ use mathlib.Core.Bool.{Bool}
 use mathlib.Core.List.{List, [], _∷_, _++_}
 use Prim.Native.Nat.{ℕ, _+_, _*_, max}
 use lib.Dec.{leb}
-use Rattle.terms.specs.Choice.{∣_∣}
-use Rattle.figures.specs.Entry.{Entry, newShort, total}
+use Rattle.terms.specs.Choice.{if_then_else_, ∣_∣}
+use Rattle.figures.specs.Entry.{Entry, newShort, total, has, mark}
 
 pub record Directory : Type 0 where
   pub policy : ℕ
@@ -54,6 +54,10 @@ withList B2 l d = withLists (d .t1) (d .t2) (d .b1) l d
 -- e becomes the tail of list i.
 abbrev pub toTail : Name → Entry → Directory → Directory
 toTail i e d = withList i (listOf i d ++ (e ∷ [])) d
+
+-- "Hit: set its reference bit, nothing else."
+abbrev pub hit : ℕ → Directory → Directory
+hit x d = if has x (d .t1) then withList T1 (mark x (d .t1)) d else withList T2 (mark x (d .t2)) d
 
 -- "New: T1's tail, bit 0", and in CART S: line 13 of both figures. The next request counts it into its n_S.
 unfoldable pub placeNew : ℕ → Directory → Directory

@@ -54,6 +54,10 @@ abbrev pub total : (Entry → ℕ) → List Entry → ℕ
 total count [] = 0
 total count (e ∷ l) = count e + total count l
 
+-- No entry of the list counts: no bit is set, none is S, none is L.
+abbrev pub noneOf : (Entry → ℕ) → List Entry → Bool
+noneOf count l = eqb (total count l) 0
+
 -- Page x is in the list.
 abbrev pub has : ℕ → List Entry → Bool
 has x [] = false

@@ -3,10 +3,11 @@
 pub mod Entry
 pub mod Directory
 pub mod Words
-pub mod Sound
 pub mod Hand
 pub mod Car
 pub mod Cart
+pub mod Policy
+pub mod Sound
 pub mod Request
 pub mod Run
 pub mod Refusals

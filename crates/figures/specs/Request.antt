@@ -5,41 +5,10 @@ use mathlib.Core.List.{List, [], _∷_}
 use Prim.Native.Nat.{ℕ}
 use lib.Dec.{eqb}
 use Rattle.terms.specs.Choice.{if_then_else_}
-use Rattle.terms.specs.Policies.{car}
-use Rattle.figures.specs.Entry.{has, mark}
-use Rattle.figures.specs.Directory.{Directory, T1, T2, withList, placeNew, cached}
+use Rattle.figures.specs.Entry.{has}
+use Rattle.figures.specs.Directory.{Directory, placeNew, cached}
 use Rattle.figures.specs.Hand.{Hand}
-use Rattle.figures.specs.Car as Car
-use Rattle.figures.specs.Cart as Cart
-
--- A policy: what a miss does. The rest of a request is the same for all.
-pub record Policy : Type 0 where
-  pub evict : Directory → Hand
-  pub trim : Directory → Directory
-  pub placeNew : ℕ → Directory → Directory
-  pub placeB1 : ℕ → Hand → Directory
-  pub placeB2 : ℕ → Hand → Directory
-
-abbrev pub carPolicy : Policy
-carPolicy = record {
-  evict = Car.evict;
-  trim = Car.trim;
-  placeNew = placeNew;
-  placeB1 = Car.placeB1;
-  placeB2 = Car.placeB2;
-}
-
-abbrev pub cartPolicy : Policy
-cartPolicy = record {
-  evict = Cart.evict;
-  trim = Cart.trim;
-  placeNew = placeNew;
-  placeB1 = Cart.placeB1;
-  placeB2 = Cart.placeB2;
-}
-
-abbrev pub policyOf : ℕ → Policy
-policyOf n = if eqb n car then carPolicy else cartPolicy
+use Rattle.figures.specs.Policy.{Policy, policyOf}
 
 -- The answer's four words, the reference bits that the hand cleared, and the directory afterwards.
 pub record Served : Type 0 where
@@ -61,24 +30,20 @@ abbrev pub evicted : ℕ → Hand → Directory → Served
 evicted kind h d =
     record { kind = kind; page = h .page; list = h .list; moves = h .moves; cleared = h .cleared; dir = d }
 
--- "Hit: set its reference bit, nothing else."
-abbrev pub hit : ℕ → Directory → Directory
-hit x d = if has x (d .t1) then withList T1 (mark x (d .t1)) d else withList T2 (mark x (d .t2)) d
-
 -- A miss in a full cache, after evict: trim is for a page in neither history.
 unfoldable pub missed : Policy → ℕ → Hand → Served
 missed π x h =
     if has x (h .dir .b1) then evicted 3 h (π .placeB1 x h)
     else if has x (h .dir .b2) then evicted 4 h (π .placeB2 x h)
-    else evicted 2 h (π .placeNew x (π .trim (h .dir)))
+    else evicted 2 h (placeNew x (π .trim (h .dir)))
 
 -- While there is room both histories are empty, so that a miss is a new page.
 unfoldable pub serve : Policy → ℕ → Directory → Served
 serve π x d =
     let full = missed π x (π .evict d) in
-    if has x (d .t1) || has x (d .t2) then still 0 (hit x d)
+    if has x (d .t1) || has x (d .t2) then still 0 (π .hit x d)
     else if eqb (cached d) (d .c) then full
-    else still 1 (π .placeNew x d)
+    else still 1 (placeNew x d)
 
 abbrev pub request : ℕ → Directory → Served
 request x d = serve (policyOf (d .policy)) x d

@@ -7,14 +7,11 @@ use lib.ListN.{getD, take, drop}
 use lib.Dec.{leb, ltb, eqb}
 use Rattle.terms.specs.Choice.{if_then_else_, ∣_∣, every, allAtMost}
 use Rattle.terms.specs.Limits.{knownSize}
-use Rattle.terms.specs.Policies.{car, knownPolicy}
-use Rattle.figures.specs.Entry.{Entry, bits, short, long, total, differ}
+use Rattle.terms.specs.Policies.{knownPolicy}
+use Rattle.figures.specs.Entry.{bits, noneOf, differ}
 use Rattle.figures.specs.Directory.{unit, listed}
 use Rattle.figures.specs.Words.{decode, size, nT1, nT2, nB1, nB2, used, unused}
-
--- No entry of the list counts: no bit is set, none is S, none is L.
-abbrev pub noneOf : (Entry → ℕ) → List Entry → Bool
-noneOf count l = eqb (total count l) 0
+use Rattle.figures.specs.Policy.{policyOf}
 
 -- The second word of each entry.
 abbrev pub flagWords : List ℕ → List ℕ
@@ -24,24 +21,6 @@ flagWords (page ∷ flags ∷ w) = flags ∷ flagWords w
 
 abbrev pub exactLength : List ℕ → Bool
 exactLength w = eqb ∣ w ∣ (8 + 4 * size w)
-
--- "for CAR also q = 0, no filter bit, |T1|+|B1| ≤ c"
-unfoldable pub carSound : List ℕ → Bool
-carSound w =
-    every (
-    eqb (getD w 3 0) 0
-    ∷ noneOf long (listed (decode w))
-    ∷ leb (nT1 w + nB1 w) (size w)
-    ∷ [])
-
--- "for CART also q ≤ 2c, every entry of T2 and B2 is L, every entry of B1 is S"
-unfoldable pub cartSound : List ℕ → Bool
-cartSound w =
-    every (
-    leb (getD w 3 0) (2 * size w)
-    ∷ noneOf short (decode w .t2 ++ decode w .b2)
-    ∷ noneOf long (decode w .b1)
-    ∷ [])
 
 unfoldable pub sound : List ℕ → Bool
 sound w =
@@ -66,5 +45,6 @@ sound w =
     ∷ noneOf bits (decode w .b1 ++ decode w .b2)
     -- "unused words are zero"
     ∷ allAtMost 0 (unused w)
-    ∷ (if eqb (getD w 0 0) car then carSound w else cartSound w)
+    -- "for CAR also .."; "for CART also .."
+    ∷ policyOf (getD w 0 0) .ownSound w
     ∷ [])

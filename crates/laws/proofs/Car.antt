@@ -10,11 +10,10 @@ use borrow.Author.Tests.{eqb-true, eqb-false, eq-eqb, ne-eqb}
 use Rattle.terms.specs.Choice.{∣_∣}
 use Rattle.terms.proofs.Choice.{by-test, either}
 use Rattle.figures.specs.Entry.{Entry, Filter, newShort, bits, long, has, dropHead}
-use Rattle.figures.specs.Directory.{Directory, T1, T2, B1, B2, withList, placeNew}
+use Rattle.figures.specs.Directory.{Directory, T1, T2, B1, B2, withList, hit, placeNew}
 use Rattle.figures.specs.Directory.{cached, remembered, inCache, t1AtTarget}
 use Rattle.figures.specs.Hand.{Hand, begin, Look, again, stop, none, here, back}
 use Rattle.figures.specs.Car.{look, choose, evict, trim, placeB1, placeB2}
-use Rattle.figures.specs.Request.{hit}
 use Rattle.figures.specs.Demands.{CarStops, T2StaysChosen, Evicts, CarTrimHasHead}
 use Rattle.laws.proofs.Lists.{entryOf, length-tail, length-head-dropped, length-marked, length-without-at-most}
 use Rattle.laws.proofs.Lists.{total-tail, total-head-dropped, total-without, total-marked-same}
@@ -97,6 +96,9 @@ module _ (d : Directory) (shared : Shared d) (own : CarFacts d) (full : cached d
 
   pub car-opens : Opened d (evict d .dir)
   car-opens = ended .holds .evicted .opens
+
+  pub car-remembers : remembered (evict d .dir) ≡ remembered d + 1
+  car-remembers = ended .holds .evicted .remembers
 
   pub car-opened : CarFacts (evict d .dir)
   car-opened = ended .holds .accounted .own

@@ -13,11 +13,10 @@ use Rattle.terms.proofs.Choice.{by-test, by-tests, either}
 use Rattle.figures.specs.Entry.{Entry, Filter, S, L, newLong, cleared, bits, shortOf, longOf, short, long}
 use Rattle.figures.specs.Entry.{total, has, without, dropHead}
 use Rattle.figures.specs.Directory.{Directory, unit, T1, T2, B1, B2, withP, withQ, withList, toTail}
-use Rattle.figures.specs.Directory.{placeNew, cached, remembered, inCache}
+use Rattle.figures.specs.Directory.{hit, placeNew, cached, remembered, inCache}
 use Rattle.figures.specs.Hand.{Hand, withDir, turn, Look, again}
-use Rattle.figures.specs.Cart.{raise, becomesLong, cost, firstLook, secondLook, firstPass, secondPass}
+use Rattle.figures.specs.Cart.{raise, becomesLong, cost, owing, firstLook, secondLook, firstPass, secondPass}
 use Rattle.figures.specs.Cart.{demoteT1, demoteT2, demotion, counted, evict, trim, placeB1, placeB2}
-use Rattle.figures.specs.Request.{hit}
 use Rattle.figures.specs.Demands.{Evicts, CartStops, HeadDropped, CartTrimHasHead}
 use Rattle.laws.proofs.Lists.{entryOf, atHead, head-of-tail, short-or-long}
 use Rattle.laws.proofs.Lists.{total-tail, total-without, total-marked-same, total-head-dropped}
@@ -25,10 +24,6 @@ use Rattle.laws.proofs.Repeats.{ComesTo, Ended, repeat-ends}
 use Rattle.laws.proofs.Facts.{Shared, CartFacts, Opened, Trimmed}
 use Rattle.laws.proofs.Turns.{holding, Turned, not-turned, turnedTo, Exchanged, turned-on, chosen}
 use Rattle.laws.proofs.Turns.{Evicted, evicted-t1, evicted-t2, dropped-b1, dropped-b2, trimmed-not, trimmed-b1, trimmed-b2}
-
--- What the cache can still cost the hand: besides T1's cost, a set bit of T2 a move to T1 and one back.
-abbrev pub owing : Directory → ℕ
-owing d = total cost (d .t1) + 2 * total bits (d .t2)
 
 pub cost-at-most-two : (e : Entry) → cost e ≤ 2
 cost-at-most-two e = either (λ n. n ≤ 2) (e .bit) (omega arith) (omega (arith, short-or-long (e .filter)))
@@ -212,6 +207,9 @@ module _ (d : Directory) (shared : Shared d) (own : CartFacts d) (full : cached 
 
   pub cart-opens : Opened d (evict d .dir)
   cart-opens = outcome .evicted .opens
+
+  pub cart-remembers : remembered (evict d .dir) ≡ remembered d + 1
+  cart-remembers = outcome .evicted .remembers
 
   pub cart-opened : CartFacts (evict d .dir)
   cart-opened = outcome .accounted .own

@@ -4,11 +4,12 @@ use mathlib.Core.Path.{_≡_, subst}
 use mathlib.Core.Bool.{true}
 use Prim.Native.Nat.{ℕ, _+_, _*_, _≤_, _<_}
 use native.Mathlib.Omega.{arith}
-use lib.Dec.{eqb}
-use Rattle.terms.specs.Choice.{if_then_else_, ∣_∣}
-use Rattle.terms.specs.Policies.{car, knownPolicy}
+use Rattle.terms.specs.Choice.{∣_∣}
+use Rattle.terms.specs.Policies.{knownPolicy}
 use Rattle.figures.specs.Entry.{Entry, bits, short, long, total}
 use Rattle.figures.specs.Directory.{Directory, unit, cached, remembered, inCache}
+use Rattle.figures.specs.Words.{encode}
+use Rattle.figures.specs.Policy.{policyOf}
 use Rattle.laws.proofs.Lists.{is, one, length-counts}
 
 abbrev pub inHistory : (Entry → ℕ) → Directory → ℕ
@@ -30,7 +31,7 @@ pub record CartFacts (d : Directory) : Type 0 where
   pub t2-b2-long : total short (d .t2) + total short (d .b2) ≡ 0
   pub b1-short : total long (d .b1) ≡ 0
 
--- What both policies share.
+-- What all policies share.
 pub record Shared (d : Directory) : Type 0 where
   pub c-least : 1 ≤ d .c
   pub c-most : d .c ≤ 1024
@@ -44,20 +45,20 @@ pub record Shared (d : Directory) : Type 0 where
 pub record Facts (d : Directory) : Type 0 where
   pub known : knownPolicy (d .policy) ≡ true
   pub shared : Shared d
-  pub own : if eqb (d .policy) car then CarFacts d else CartFacts d
+  pub own : policyOf (d .policy) .ownSound (encode d) ≡ true
 
--- Its own facts, by the policy that it names.
-pub own-by : {d : Directory} {policy : ℕ} → Facts d → d .policy ≡ policy → if eqb policy car then CarFacts d else CartFacts d
-own-by {d} f named = subst (λ (n : ℕ). if eqb n car then CarFacts d else CartFacts d) named (f .own)
+-- Its own test, by the policy that it names.
+pub own-by : {d : Directory} {n : ℕ} → Facts d → d .policy ≡ n → policyOf n .ownSound (encode d) ≡ true
+own-by {d} f named = subst (λ (n : ℕ). policyOf n .ownSound (encode d) ≡ true) named (f .own)
 
--- What the evict part does, whichever policy: one page less is cached, one more remembered, no page is lost or comes in.
+-- What the evict part does, whichever policy: one page less is cached, at most one more remembered, no page more listed.
 pub record Opened (d d′ : Directory) : Type 0 where
   pub same-policy : d′ .policy ≡ d .policy
   pub same-c : d′ .c ≡ d .c
   pub same-p : d′ .p ≡ d .p
   pub one-less : cached d′ + 1 ≡ cached d
-  pub one-more : remembered d′ ≡ remembered d + 1
-  pub same-pages : (x : ℕ) → inCache (is x) d′ + inHistory (is x) d′ ≡ inCache (is x) d + inHistory (is x) d
+  pub one-more : remembered d′ ≤ remembered d + 1
+  pub none-listed : (x : ℕ) → inCache (is x) d′ + inHistory (is x) d′ ≤ inCache (is x) d + inHistory (is x) d
   pub none-enters : (x : ℕ) → inCache (is x) d′ ≤ inCache (is x) d
   pub history-clear : inHistory bits d′ ≡ 0
 

@@ -9,7 +9,9 @@ pub mod Turns
 pub mod Car
 pub mod Cart
 pub mod Placing
-pub mod Reached
-pub mod Stops
+pub mod Laws
+pub mod Lawful
 pub mod Kept
+pub mod Stops
 pub mod Moves
+pub mod Reached

@@ -1,4 +1,4 @@
--- Soundness of what a request leaves, as far as both policies share it: a hit, a new page, a page that comes back.
+-- Soundness of what a request leaves, as far as all policies share it: a hit, a new page, a page that comes back.
 -- Each outcome is judged by what it adds to the cache and takes from the histories.
 use mathlib.Core.Path.{_≡_, refl, ap}
 use mathlib.Core.Bool.{Bool, true, false, _||_, true≢false}
@@ -10,11 +10,11 @@ use borrow.Author.Tests.{eqb-true, eq-eqb}
 use Rattle.terms.specs.Choice.{if_then_else_, ∣_∣}
 use Rattle.terms.proofs.Choice.{either}
 use Rattle.figures.specs.Entry.{Entry, newShort, newLong, bits, total, has, mark, without}
-use Rattle.figures.specs.Directory.{Directory, unit, T1, T2, withLists, withList, withQ, cached, remembered, inCache, placeNew}
+use Rattle.figures.specs.Directory.{Directory, unit, T1, T2, withLists, withList, withQ}
+use Rattle.figures.specs.Directory.{hit, placeNew, cached, remembered, inCache}
 use Rattle.figures.specs.Hand.{Hand}
 use Rattle.figures.specs.Car as Car
 use Rattle.figures.specs.Cart as Cart
-use Rattle.figures.specs.Request.{hit}
 use Rattle.laws.proofs.Lists.{is, has-counts, lacks-counts, counts-has, count-without, is-at-most-one}
 use Rattle.laws.proofs.Lists.{length-tail, total-tail, total-at-most, length-marked, total-marked-same, length-without, total-without}
 use Rattle.laws.proofs.Facts.{inHistory, Shared, Opened, Trimmed}
@@ -146,7 +146,7 @@ opened-open x d d′ s full missed o =
       p-fits = omega (arith, s .p-fits);
       room = omega (arith, o .one-less);
       history-most = omega (arith, o .one-more, s .history-fits);
-      pages-differ = λ y. omega (arith, o .same-pages y, s .pages-differ y);
+      pages-differ = λ y. omega (arith, o .none-listed y, s .pages-differ y);
       not-cached = omega (arith, o .none-enters x);
       history-clear = o .history-clear;
     }
@@ -264,7 +264,7 @@ pub raised : (P : Directory → Type 0) (nS : ℕ) (d : Directory) → ((q : ℕ
 raised P nS d any =
     either P (leb (d .c) (∣ d .t2 ∣ + ∣ d .b2 ∣ + ∣ d .t1 ∣ - nS)) (any (min (d .q + 1) (2 * d .c - ∣ d .t1 ∣))) (any (d .q))
 
--- What a page that comes back leaves: the cache has it, and both policies' common rules hold.
+-- What a page that comes back leaves: the cache has it, and all policies' common rules hold.
 pub record CameBack (x : ℕ) (d d′ : Directory) : Type 0 where
   pub shared : Shared d′
   pub is-cached : 1 ≤ inCache (is x) d′

@@ -9,11 +9,12 @@ use borrow.Author.Tests.{eq-eqb, ne-eqb, le-leb}
 use Rattle.terms.specs.Choice.{if_then_else_, ∣_∣}
 use Rattle.terms.specs.Policies.{car, cart}
 use Rattle.figures.specs.Entry.{Entry, newShort, newLong, marked, bits, short, long, total, has, mark}
-use Rattle.figures.specs.Directory.{Directory, unit, T1, T2, B1, B2, fresh, withLists, withQ, placeNew}
+use Rattle.figures.specs.Directory.{Directory, unit, T1, T2, B1, B2, fresh, withLists, withQ, hit, placeNew}
 use Rattle.figures.specs.Hand.{Hand, onward, repeat}
 use Rattle.figures.specs.Car as Car
 use Rattle.figures.specs.Cart as Cart
-use Rattle.figures.specs.Request.{policyOf, Served, request}
+use Rattle.figures.specs.Policy.{policyOf}
+use Rattle.figures.specs.Request.{Served, request}
 use Rattle.figures.specs.Run.{run}
 use Rattle.figures.specs.Demands.{pagesFrom, allTwice, CarReached, CartReached}
 use Rattle.laws.proofs.Requests.{serve-hit, serve-room, serve-full, missed-moves, after, run-after, after-append}
@@ -54,38 +55,40 @@ module _ (f : ℕ → Entry) where
         ∙ ap (λ (l : List Entry). f x ∷ l)
         (ap (λ (y : ℕ). mark y (made f (suc x) n ++ r)) (omega arith) ∙ marks-made n (suc x) r ∙ ap (λ (y : ℕ). made f (suc x) n ++ mark y r) (omega arith))
 
--- While T1 alone holds pages: a new page comes to its tail, and a page of it is marked.
+-- While T1 alone holds pages: a new page comes to its tail, and a page of it is marked, where a hit marks it.
 module _ (policy c : ℕ) where
   abbrev only : List Entry → Directory
   only t1 = withLists t1 [] [] [] (fresh policy c)
 
-  requests-new : (x : ℕ) (l : List Entry) → has x l ≡ false → ∣ l ∣ < c → policyOf policy .placeNew ≡ placeNew
+  requests-new : (x : ℕ) (l : List Entry) → has x l ≡ false → ∣ l ∣ < c
       → request x (only l) .dir ≡ only (l ++ (newShort x ∷ []))
   unfolding placeNew
-  requests-new x l lacks room new =
+  requests-new x l lacks room =
       ap (λ (s : Served). s .dir) (serve-room (policyOf policy) x (only l) (ap (λ (b : Bool). b || false) lacks) (ne-eqb (∣ l ∣ + 0) c (λ e. omega arith)))
-      ∙ ap (λ (place : ℕ → Directory → Directory). place x (only l)) new
 
-  requests-old : (x : ℕ) (l : List Entry) → has x l ≡ true → request x (only l) .dir ≡ only (mark x l)
-  requests-old x l found =
+  requests-old : policyOf policy .hit ≡ hit → (x : ℕ) (l : List Entry) → has x l ≡ true
+      → request x (only l) .dir ≡ only (mark x l)
+  requests-old by-marking x l found =
       ap (λ (s : Served). s .dir) (serve-hit (policyOf policy) x (only l) (ap (λ (b : Bool). b || false) found))
+      ∙ ap (λ (hits : ℕ → Directory → Directory). hits x (only l)) by-marking
       ∙ ap (λ (b : Bool). if b then only (mark x l) else only l) found
 
   -- The first time through: T1 fills.
-  fills : policyOf policy .placeNew ≡ placeNew → (n k x : ℕ) → x ≡ 1 + k → k + n ≤ c
+  fills : (n k x : ℕ) → x ≡ 1 + k → k + n ≤ c
       → after (pagesFrom x n) (only (made newShort 1 k)) ≡ only (made newShort 1 (k + n))
-  fills new zero k x e h = let same : k ≡ k + 0 = omega arith in ap (λ (m : ℕ). only (made newShort 1 m)) same
-  fills new (suc n) k x e h =
+  fills zero k x e h = let same : k ≡ k + 0 = omega arith in ap (λ (m : ℕ). only (made newShort 1 m)) same
+  fills (suc n) k x e h =
       let lacks = not-made newShort (λ y. refl) k 1 x (omega arith) in
       let step =
-      requests-new x (made newShort 1 k) lacks (omega (arith, length-made newShort k 1)) new ∙ ap only (made-grown newShort k 1 x e) in
+      requests-new x (made newShort 1 k) lacks (omega (arith, length-made newShort k 1)) ∙ ap only (made-grown newShort k 1 x e) in
       let same : suc k + n ≡ k + suc n = omega arith in
-      ap (after (pagesFrom (suc x) n)) step ∙ fills new n (suc k) (suc x) (omega arith) (omega arith) ∙ ap (λ (m : ℕ). only (made newShort 1 m)) same
+      ap (after (pagesFrom (suc x) n)) step ∙ fills n (suc k) (suc x) (omega arith) (omega arith) ∙ ap (λ (m : ℕ). only (made newShort 1 m)) same
 
   -- The second time: every page is marked.
-  marks : (n k x : ℕ) → x ≡ 1 + k → after (pagesFrom x n) (only (made lit 1 k ++ made newShort x n)) ≡ only (made lit 1 (k + n))
-  marks zero k x e = let same : k ≡ k + 0 = omega arith in ap only (append-nil (made lit 1 k) ∙ ap (made lit 1) same)
-  marks (suc n) k x e =
+  marks : policyOf policy .hit ≡ hit → (n k x : ℕ) → x ≡ 1 + k
+      → after (pagesFrom x n) (only (made lit 1 k ++ made newShort x n)) ≡ only (made lit 1 (k + n))
+  marks by-marking zero k x e = let same : k ≡ k + 0 = omega arith in ap only (append-nil (made lit 1 k) ∙ ap (made lit 1) same)
+  marks by-marking (suc n) k x e =
       let r = made newShort (suc x) n in
       let found : has x (made lit 1 k ++ (newShort x ∷ r)) ≡ true =
       counts-has x (made lit 1 k ++ (newShort x ∷ r)) (omega (arith, total-append (is x) (made lit 1 k) (newShort x ∷ r), is-itself x (newShort x) refl)) in
@@ -95,28 +98,28 @@ module _ (policy c : ℕ) where
       let here : mark x (newShort x ∷ r) ≡ lit x ∷ r = ap (λ (b : Bool). if b then lit x ∷ r else newShort x ∷ mark x r) (eq-eqb x x refl) in
       let marked-one : mark x (made lit 1 k ++ (newShort x ∷ r)) ≡ made lit 1 (suc k) ++ r =
       passed ∙ ap (λ (l : List Entry). made lit 1 k ++ l) here ∙ ap (λ (y : ℕ). made lit 1 k ++ (lit y ∷ r)) e ∙ made-tail lit k 1 r in
-      let step = requests-old x (made lit 1 k ++ made newShort x (suc n)) found ∙ ap only marked-one in
+      let step = requests-old by-marking x (made lit 1 k ++ made newShort x (suc n)) found ∙ ap only marked-one in
       let same : suc k + n ≡ k + suc n = omega arith in
-      ap (after (pagesFrom (suc x) n)) step ∙ marks n (suc k) (suc x) (omega arith) ∙ ap (λ (m : ℕ). only (made lit 1 m)) same
+      ap (after (pagesFrom (suc x) n)) step ∙ marks by-marking n (suc k) (suc x) (omega arith) ∙ ap (λ (m : ℕ). only (made lit 1 m)) same
 
   -- Both times.
-  fills-and-marks : policyOf policy .placeNew ≡ placeNew → after (allTwice c) (fresh policy c) ≡ only (made lit 1 c)
-  fills-and-marks new =
+  fills-and-marks : policyOf policy .hit ≡ hit → after (allTwice c) (fresh policy c) ≡ only (made lit 1 c)
+  fills-and-marks by-marking =
       let same : 0 + c ≡ c = omega arith in
       let filled : after (pagesFrom 1 c) (fresh policy c) ≡ only (made newShort 1 c) =
-      fills new c 0 1 refl (omega arith) ∙ ap (λ (m : ℕ). only (made newShort 1 m)) same in
+      fills c 0 1 refl (omega arith) ∙ ap (λ (m : ℕ). only (made newShort 1 m)) same in
       after-append (pagesFrom 1 c) (pagesFrom 1 c) (fresh policy c)
       ∙ ap (after (pagesFrom 1 c)) filled
-      ∙ marks c 0 1 refl
+      ∙ marks by-marking c 0 1 refl
       ∙ ap (λ (m : ℕ). only (made lit 1 m)) same
 
   -- The new page: the cache is full, so that the moves are those of the evict part.
-  last-moves : (new : policyOf policy .placeNew ≡ placeNew) → 1 ≤ c
+  last-moves : policyOf policy .hit ≡ hit
       → request (c + 1) (run (allTwice c) (fresh policy c) .dir) .moves ≡ policyOf policy .evict (only (made lit 1 c)) .moves
-  last-moves new some =
+  last-moves by-marking =
       let full = only (made lit 1 c) in
       let lacks : has (c + 1) (made lit 1 c) || false ≡ false = ap (λ (b : Bool). b || false) (not-made lit (λ y. refl) c 1 (c + 1) (omega arith)) in
-      ap (λ (d : Directory). request (c + 1) d .moves) (run-after _ (allTwice c) (fresh policy c) ∙ fills-and-marks new)
+      ap (λ (d : Directory). request (c + 1) d .moves) (run-after _ (allTwice c) (fresh policy c) ∙ fills-and-marks by-marking)
       ∙ ap (λ (s : Served). s .moves) (serve-full (policyOf policy) (c + 1) full lacks (eq-eqb (∣ made lit 1 c ∣ + 0) c (omega (arith, length-made lit c 1))))
       ∙ missed-moves (policyOf policy) (c + 1) (policyOf policy .evict full)
 
@@ -146,7 +149,7 @@ pub car-reached : CarReached
 unfolding Car.evict
 car-reached c some most =
     let budget : suc (total bits (made lit 1 c) + 0) ≡ suc c = omega (arith, bits-lit c 1) in
-    last-moves car c refl some
+    last-moves car c refl
     ∙ ap (λ (k : ℕ). repeat Car.choose k (turning c 0 (made lit 1 c) []) .moves) budget
     ∙ car-turns c c 0 1 0 refl (omega arith)
     ∙ omega arith
@@ -208,7 +211,7 @@ pub cart-reached : CartReached
 unfolding Cart.evict Cart.firstPass Cart.secondPass repeat
 cart-reached c some most =
     let begun = passing c (total short (made lit 1 c) + 0) (total long (made lit 1 c) + 0) 0 0 0 in
-    last-moves cart c refl some
+    last-moves cart c refl
     ∙ ap (λ (t1 : List Entry). Cart.demotion (repeat Cart.secondLook (suc (total Cart.cost (made lit 1 c))) (begun t1 [])) .moves) (sym (append-nil (made lit 1 c)))
     ∙ lengthens c c 0 1 (total Cart.cost (made lit 1 c)) _ _ 0 0 0 refl (omega arith) (omega (arith, cost-lit c 1))
     ∙ omega arith

@@ -7,25 +7,26 @@ use Prim.Native.Nat.{ℕ}
 use lib.Dec.{eqb}
 use Rattle.terms.specs.Choice.{if_then_else_}
 use Rattle.figures.specs.Entry.{has}
-use Rattle.figures.specs.Directory.{Directory, cached}
+use Rattle.figures.specs.Directory.{Directory, placeNew, cached}
 use Rattle.figures.specs.Hand.{Hand}
-use Rattle.figures.specs.Request.{Policy, Served, still, evicted, hit, missed, serve, request}
+use Rattle.figures.specs.Policy.{Policy}
+use Rattle.figures.specs.Request.{Served, still, evicted, missed, serve, request}
 use Rattle.figures.specs.Run.{Tally, runFrom}
 
 module _ (π : Policy) (x : ℕ) (d : Directory) where
   -- what a miss comes to, by whether the cache is full
   abbrev miss : Bool → Served
-  miss full = let evicting = missed π x (π .evict d) in if full then evicting else still 1 (π .placeNew x d)
+  miss full = let evicting = missed π x (π .evict d) in if full then evicting else still 1 (placeNew x d)
 
-  pub serve-hit : has x (d .t1) || has x (d .t2) ≡ true → serve π x d ≡ still 0 (hit x d)
+  pub serve-hit : has x (d .t1) || has x (d .t2) ≡ true → serve π x d ≡ still 0 (π .hit x d)
   unfolding serve
-  serve-hit h = ap (λ (b : Bool). if b then still 0 (hit x d) else miss (eqb (cached d) (d .c))) h
+  serve-hit h = ap (λ (b : Bool). if b then still 0 (π .hit x d) else miss (eqb (cached d) (d .c))) h
 
   serve-miss : has x (d .t1) || has x (d .t2) ≡ false → serve π x d ≡ miss (eqb (cached d) (d .c))
   unfolding serve
-  serve-miss h = ap (λ (b : Bool). if b then still 0 (hit x d) else miss (eqb (cached d) (d .c))) h
+  serve-miss h = ap (λ (b : Bool). if b then still 0 (π .hit x d) else miss (eqb (cached d) (d .c))) h
 
-  pub serve-room : has x (d .t1) || has x (d .t2) ≡ false → eqb (cached d) (d .c) ≡ false → serve π x d ≡ still 1 (π .placeNew x d)
+  pub serve-room : has x (d .t1) || has x (d .t2) ≡ false → eqb (cached d) (d .c) ≡ false → serve π x d ≡ still 1 (placeNew x d)
   serve-room h room = serve-miss h ∙ ap miss room
 
   pub serve-full : has x (d .t1) || has x (d .t2) ≡ false → eqb (cached d) (d .c) ≡ true → serve π x d ≡ missed π x (π .evict d)
@@ -33,8 +34,8 @@ module _ (π : Policy) (x : ℕ) (d : Directory) where
 
   -- What holds in each case holds of the request.
   pub serve-by-cases : (P : Served → Type 0)
-      → (has x (d .t1) || has x (d .t2) ≡ true → P (still 0 (hit x d)))
-      → (has x (d .t1) || has x (d .t2) ≡ false → eqb (cached d) (d .c) ≡ false → P (still 1 (π .placeNew x d)))
+      → (has x (d .t1) || has x (d .t2) ≡ true → P (still 0 (π .hit x d)))
+      → (has x (d .t1) || has x (d .t2) ≡ false → eqb (cached d) (d .c) ≡ false → P (still 1 (placeNew x d)))
       → (has x (d .t1) || has x (d .t2) ≡ false → eqb (cached d) (d .c) ≡ true → P (missed π x (π .evict d)))
       → P (serve π x d)
   serve-by-cases P by-hit by-room by-full = go (has x (d .t1) || has x (d .t2)) (eqb (cached d) (d .c)) refl refl
@@ -46,7 +47,7 @@ module _ (π : Policy) (x : ℕ) (d : Directory) where
 
 module _ (π : Policy) (x : ℕ) (h : Hand) where
   abbrev elsewhere : Bool → Served
-  elsewhere inB2 = if inB2 then evicted 4 h (π .placeB2 x h) else evicted 2 h (π .placeNew x (π .trim (h .dir)))
+  elsewhere inB2 = if inB2 then evicted 4 h (π .placeB2 x h) else evicted 2 h (placeNew x (π .trim (h .dir)))
 
   pub missed-B1 : has x (h .dir .b1) ≡ true → missed π x h ≡ evicted 3 h (π .placeB1 x h)
   unfolding missed
@@ -59,13 +60,13 @@ module _ (π : Policy) (x : ℕ) (h : Hand) where
   pub missed-B2 : has x (h .dir .b1) ≡ false → has x (h .dir .b2) ≡ true → missed π x h ≡ evicted 4 h (π .placeB2 x h)
   missed-B2 f g = missed-elsewhere f ∙ ap elsewhere g
 
-  pub missed-new : has x (h .dir .b1) ≡ false → has x (h .dir .b2) ≡ false → missed π x h ≡ evicted 2 h (π .placeNew x (π .trim (h .dir)))
+  pub missed-new : has x (h .dir .b1) ≡ false → has x (h .dir .b2) ≡ false → missed π x h ≡ evicted 2 h (placeNew x (π .trim (h .dir)))
   missed-new f g = missed-elsewhere f ∙ ap elsewhere g
 
   pub missed-by-cases : (P : Served → Type 0)
       → (has x (h .dir .b1) ≡ true → P (evicted 3 h (π .placeB1 x h)))
       → (has x (h .dir .b1) ≡ false → has x (h .dir .b2) ≡ true → P (evicted 4 h (π .placeB2 x h)))
-      → (has x (h .dir .b1) ≡ false → has x (h .dir .b2) ≡ false → P (evicted 2 h (π .placeNew x (π .trim (h .dir)))))
+      → (has x (h .dir .b1) ≡ false → has x (h .dir .b2) ≡ false → P (evicted 2 h (placeNew x (π .trim (h .dir)))))
       → P (missed π x h)
   missed-by-cases P in-B1 in-B2 new = go (has x (h .dir .b1)) (has x (h .dir .b2)) refl refl
     where

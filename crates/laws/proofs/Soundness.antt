@@ -10,15 +10,16 @@ use lib.ListN.{take, drop, replicate}
 use lib.Dec.{eqb}
 use borrow.Author.Tests.{eqb-true}
 use Rattle.terms.specs.Choice.{if_then_else_, allAtMost}
-use Rattle.terms.specs.Policies.{car}
 use Rattle.terms.proofs.Tests.{reads}
 use Rattle.figures.specs.Entry.{Entry, Filter, S, L, longOf, total, differ}
 use Rattle.figures.specs.Directory.{Directory, cached, remembered, listed, inCache}
 use Rattle.figures.specs.Words.{flags, words, used, unused, encode, decode}
-use Rattle.figures.specs.Sound.{flagWords, carSound, cartSound, sound}
+use Rattle.figures.specs.Car.{carSound}
+use Rattle.figures.specs.Cart.{cartSound}
+use Rattle.figures.specs.Sound.{flagWords, sound}
 use Rattle.figures.specs.Demands.{Sound}
 use Rattle.laws.proofs.Lists.{is, is-itself, total-append, lacks-counts, counts-lacks}
-use Rattle.laws.proofs.Facts.{inHistory, Shared, CarFacts, CartFacts, Facts}
+use Rattle.laws.proofs.Facts.{inHistory, CarFacts, CartFacts, Facts}
 use Rattle.laws.proofs.Encoding.{decode-encode, encode-decode, words-fit, used-words, unused-words}
 
 -- Pages that differ are pages that count at most once.
@@ -73,14 +74,17 @@ module _ (d : Directory) where
   -- What the test says of d. Its facts are those of Facts, in another order: search puts each in its place.
   ruleset says = (decode-encode, reads, differ-iff, total-listed, total-append)
 
-  own-iff : (b : Bool) → ((if b then carSound (encode d) else cartSound (encode d)) ≡ true) ↔ (if b then CarFacts d else CartFacts d)
-  unfolding carSound cartSound
-  own-iff true = (λ h. let said = simp says at h in search, λ f. simp says search)
-  own-iff false = (λ h. let said = simp says at h in search, λ f. simp says search)
+  pub car-iff : (carSound (encode d) ≡ true) ↔ CarFacts d
+  unfolding carSound
+  car-iff = (λ h. let said = simp says at h in search, λ f. simp says search)
+
+  pub cart-iff : (cartSound (encode d) ≡ true) ↔ CartFacts d
+  unfolding cartSound
+  cart-iff = (λ h. let said = simp says at h in search, λ f. simp says search)
 
   pub facts : Sound d → Facts d
   unfolding sound
-  facts h = let said = simp (says, own-iff) at h in search
+  facts h = let said = simp says at h in search
 
   pub facts-sound : Facts d → Sound d
   unfolding sound
@@ -88,16 +92,7 @@ module _ (d : Directory) where
       let fits = words-fit d (omega arith) in
       let flags-3 = flags-small in
       let unused-0 = unused-small in
-      simp (says, own-iff) search
-
--- The policy that a sound directory names.
-pub by-policy : (P : Bool → Type 0) (d : Directory) → Sound d
-    → (Shared d → CarFacts d → P true) → (Shared d → CartFacts d → P false) → P (eqb (d .policy) car)
-by-policy P d s of-car of-cart = go (eqb (d .policy) car) (facts d s .own)
-  where
-    go : (b : Bool) → if b then CarFacts d else CartFacts d → P b
-    go true own = of-car (facts d s .shared) own
-    go false own = of-cart (facts d s .shared) own
+      simp says search
 
 pub facts-of-words : (w : List ℕ) → sound w ≡ true → Facts (decode w)
 facts-of-words w h = facts (decode w) (rw (encode-decode w h) h)

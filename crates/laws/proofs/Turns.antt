@@ -87,6 +87,7 @@ module _ {d : Directory} {a : Hand} (t : Turned d a) where
 pub record Evicted (d : Directory) (z : Hand) : Type 0 where
   pub opens : Opened d (z .dir)
   pub evicts : Evicts d z
+  pub remembers : remembered (z .dir) ≡ remembered d + 1
 
 abbrev demotedTo : Entry → ℕ → List Entry → List Entry → List Entry → List Entry → ℕ → ℕ → Hand → Hand
 demotedTo e list t1 t2 b1 b2 nS nL a = record {
@@ -113,13 +114,15 @@ module _ {d : Directory} (shared : Shared d) where
       → Evicted d (demotedTo e list t1 t2 b1 b2 nS nL a)
   evicted {a} {t1 = t1} {t2 = t2} {b1 = b1} {b2 = b2} t e clear named taken given =
       let d′ = withLists t1 t2 b1 b2 (a .dir) in
+      let remembers : remembered d′ ≡ remembered d + 1 =
+      omega (arith, given one, still-remembered t one, remembered-counts d, remembered-counts d′) in
       let opens : Opened d d′ = record {
         same-policy = t .same-policy;
         same-c = t .same-c;
         same-p = t .same-p;
         one-less = omega (arith, still-cached t, taken one, cached-counts (a .dir), cached-counts d′);
-        one-more = omega (arith, given one, still-remembered t one, remembered-counts d, remembered-counts d′);
-        same-pages = λ x. omega (arith, taken (is x), given (is x), still-remembered t (is x), same-page t x);
+        one-more = omega arith;
+        none-listed = λ x. omega (arith, taken (is x), given (is x), still-remembered t (is x), same-page t x);
         none-enters = λ x. omega (arith, taken (is x), same-page t x);
         history-clear = omega (arith, given bits, still-remembered t bits);
       } in
@@ -128,11 +131,11 @@ module _ {d : Directory} (shared : Shared d) where
         evicts = record {
           from-T1-or-T2 = named;
           one-less = opens .one-less;
-          one-more = opens .one-more;
           page-leaves = λ count. omega (arith, taken (byPage count), t .same-pages count);
           demoted-clear = opens .history-clear;
           bits-accounted = omega (arith, taken bits);
         };
+        remembers = remembers;
       }
 
   pub evicted-t1 : {nS nL : ℕ} (e : Entry) (es : List Entry) (a : Hand) → let h = holding T1 (e ∷ es) a in Turned d h → bits e ≡ 0

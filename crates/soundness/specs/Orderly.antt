@@ -7,11 +7,11 @@ use Prim.Native.Nat.{ℕ, _+_, _*_, _≤_}
 use lib.ListN.{getD}
 use lib.Dec.{leb, ltb, eqb}
 use Rattle.terms.specs.Choice.{if_then_else_, ∣_∣, every}
-use Rattle.terms.specs.Policies.{car, knownPolicy}
-use Rattle.figures.specs.Entry.{bits, differ}
+use Rattle.terms.specs.Policies.{knownPolicy}
+use Rattle.figures.specs.Entry.{bits, noneOf, differ}
 use Rattle.figures.specs.Directory.{unit, listed}
 use Rattle.figures.specs.Words.{encode, decode, size, nT1, nT2, nB1, nB2}
-use Rattle.figures.specs.Sound.{noneOf, carSound, cartSound}
+use Rattle.figures.specs.Policy.{policyOf}
 
 -- The words' number, policy and size are in order.
 pub record Orderly (w : List ℕ) : Type 0 where
@@ -43,5 +43,5 @@ entriesSound w =
     every (
     differ (listed (decode w))
     ∷ noneOf bits (decode w .b1 ++ decode w .b2)
-    ∷ (if eqb (getD w 0 0) car then carSound w else cartSound w)
+    ∷ policyOf (getD w 0 0) .ownSound w
     ∷ [])

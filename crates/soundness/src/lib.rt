@@ -1,7 +1,9 @@
 // "A directory is sound when", in words whose number, policy and size are in order, which directory::check sees to.
 // Sizes come first: what is read after them is where it should be.
 ghost use mathlib.Core.Path.{_≡_};
-ghost use Rattle.figures.specs.Sound.{carSound, cartSound, sound};
+ghost use Rattle.figures.specs.Car.{carSound};
+ghost use Rattle.figures.specs.Cart.{cartSound};
+ghost use Rattle.figures.specs.Sound.{sound};
 ghost use Rattle.soundness.specs.Orderly.{Orderly, sizesFit, Held, entriesSound};
 use entries::header;
 use entries::lists;

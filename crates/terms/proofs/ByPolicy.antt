@@ -6,7 +6,7 @@ use lib.Dec.{eqb}
 use borrow.Author.Tests.{eqb-true}
 use Rattle.terms.specs.Policies.{car, cart, knownPolicy}
 
-pub by-policy : (P : ℕ → Type 0) → P car → P cart → (n : ℕ) → knownPolicy n ≡ true → P n
+pub by-policy {ℓ} : (P : ℕ → Type ℓ) → P car → P cart → (n : ℕ) → knownPolicy n ≡ true → P n
 by-policy P of-car of-cart n known = go (eqb n car) (eqb n cart) known (eqb-true n car) (eqb-true n cart)
   where
     go : (one two : Bool) → one || (two || false) ≡ true → (one ≡ true → n ≡ car) → (two ≡ true → n ≡ cart) → P n

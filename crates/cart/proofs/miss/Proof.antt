@@ -2,7 +2,7 @@
 use borrow.Author.Needs.{needs}
 use Rattle.figures.specs.Words.{decode}
 use Rattle.figures.specs.Cart.{evict}
-use Rattle.figures.specs.Request.{cartPolicy}
+use Rattle.figures.specs.Policy.{cartPolicy}
 use Rattle.entries.proofs.Placed.{tells-missed}
 use Rattle.cart.proofs.Opening.{opened}
 use Rattle.cart.proofs.miss.Statement.{statement}

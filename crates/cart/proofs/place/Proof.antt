@@ -6,7 +6,7 @@ use borrow.Author.Needs.{needs}
 use Rattle.figures.specs.Entry.{newLong}
 use Rattle.figures.specs.Words.{decode}
 use Rattle.figures.specs.Cart as Cart
-use Rattle.figures.specs.Request.{cartPolicy}
+use Rattle.figures.specs.Policy.{cartPolicy}
 use Rattle.entries.proofs.Laid.{header}
 use Rattle.entries.proofs.Rooms.{room-for-new}
 use Rattle.entries.proofs.Placed.{placed-B1, placed-B2, placed-new}

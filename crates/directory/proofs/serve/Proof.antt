@@ -2,7 +2,7 @@
 use native.Mathlib.Omega.{arith}
 use borrow.Author.Needs.{needs}
 use Rattle.figures.specs.Words.{decode}
-use Rattle.figures.specs.Request.{carPolicy, cartPolicy}
+use Rattle.figures.specs.Policy.{carPolicy, cartPolicy}
 use Rattle.directory.proofs.Serving.{words-held, place, tells-hit, tells-room, tells-full, names-car, names-cart, other-is-cart}
 use Rattle.directory.proofs.serve.Statement.{statement}
 use Rattle.directory.proofs.serve.Tie as tie

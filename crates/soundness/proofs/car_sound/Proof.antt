@@ -4,7 +4,7 @@ use native.Mathlib.Omega.{arith}
 use Rattle.figures.specs.Entry.{long, total}
 use Rattle.figures.specs.Directory.{listed}
 use Rattle.figures.specs.Words.{decode}
-use Rattle.figures.specs.Sound.{carSound}
+use Rattle.figures.specs.Car.{carSound}
 use Rattle.terms.proofs.Tests.{reads}
 use Rattle.soundness.proofs.Tests.{fails, agree}
 use Rattle.soundness.proofs.Parts.{told, all-stand}

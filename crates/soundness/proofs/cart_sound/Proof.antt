@@ -4,7 +4,7 @@ use mathlib.Core.List.{_++_}
 use native.Mathlib.Omega.{arith}
 use Rattle.figures.specs.Entry.{short, long, total}
 use Rattle.figures.specs.Words.{decode}
-use Rattle.figures.specs.Sound.{cartSound}
+use Rattle.figures.specs.Cart.{cartSound}
 use Rattle.laws.proofs.Lists.{total-append}
 use Rattle.terms.proofs.Tests.{reads}
 use Rattle.soundness.proofs.Tests.{fails, agree}

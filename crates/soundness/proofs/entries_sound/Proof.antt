@@ -4,10 +4,9 @@ use mathlib.Core.Bool.{true}
 use mathlib.Core.List.{_++_}
 use native.Mathlib.Omega.{arith}
 use borrow.Author.Tests.{not-true, not-false, eq-eqb, ne-eqb}
-use Rattle.figures.specs.Entry.{bits, total, differ}
+use Rattle.figures.specs.Entry.{bits, total, noneOf, differ}
 use Rattle.figures.specs.Directory.{Directory, listed}
 use Rattle.figures.specs.Words.{decode}
-use Rattle.figures.specs.Sound.{noneOf}
 use Rattle.soundness.proofs.Tests.{alone}
 use Rattle.soundness.proofs.Parts.{told, all-stand, history-stands}
 use borrow.Author.Needs.{needs}
