@@ -117,7 +117,8 @@ module _ {w : List ℕ} (r : Ready w) where
 
       pub tells-room : n ≤ k → n < size w → w′ ≡ encode (placeNew x d) → Tells (request x d) 1 0 0 0 w′ × Ready w′
       tells-room outside free are =
-          tells-as (serve-room (policyOf (d .policy)) x d (missed-cache outside) (ne-eqb (cached d) (d .c) (λ e. omega (arith, held)))) are
+          let room = ne-eqb (cached d) (d .c) (λ e. omega (arith, held)) in
+          tells-as (serve-room (policyOf (d .policy)) x d (missed-cache outside) room) are
 
       pub tells-full : (π : Policy) → policyOf (d .policy) ≡ π → n ≤ k → size w ≤ n → {kind page list moves : ℕ}
           → Tells (missed π x (π .evict d)) kind page list moves w′ → Tells (request x d) kind page list moves w′ × Ready w′

@@ -1,4 +1,5 @@
 -- P1 to P12, the errors that look right and the limits of soundness, by computation.
+-- Each definition is unfolded, so that a case is one Boolean.
 use mathlib.Core.Path.{refl}
 use Rattle.figures.specs.Directory.{placeNew}
 use Rattle.figures.specs.Words.{decode}

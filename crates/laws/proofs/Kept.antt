@@ -34,7 +34,8 @@ module _ (π : Policy) (Own : Directory → Type 0) (keeps : Keeps π Own) (x : 
   left-by-hit found = keeps .hits x d shared own (found-counted x d found)
 
   -- A new page, whether there was room or trim made the histories fit.
-  left-by-new : (d′ : Directory) → Roomy x d′ → Own (placeNew x d′) → d′ .policy ≡ d .policy → d′ .c ≡ d .c → Left Own x d (placeNew x d′)
+  left-by-new : (d′ : Directory) → Roomy x d′ → Own (placeNew x d′) → d′ .policy ≡ d .policy → d′ .c ≡ d .c
+      → Left Own x d (placeNew x d′)
   unfolding placeNew
   left-by-new d′ roomy own′ policy c =
       record { shared = new-keeps x d′ roomy; own = own′; is-cached = new-counted d′; same-policy = policy; same-c = c }
@@ -103,7 +104,9 @@ request-keeps x d s =
           (record {
             known = ap knownPolicy (l .same-policy) ∙ f .known;
             shared = l .shared;
-            own = subst (λ (n : ℕ). policyOf n .ownSound (encode d′) ≡ true) (sym (l .same-policy)) (law .own-iff d′ .1 (l .own));
+            own =
+                subst (λ (n : ℕ). policyOf n .ownSound (encode d′) ≡ true) (sym (l .same-policy))
+                (law .own-iff d′ .1 (l .own));
           });
       page-cached = counted-cached x d′ (l .is-cached);
       same-policy = l .same-policy;

@@ -59,7 +59,8 @@ car-moves-are-bits-cleared x d s is-car =
     Cleared s = 2 ≤ s .kind → s .moves ≡ s .cleared + 1
 
 -- Every request pays for its moves: what is owed afterwards is so much less.
-module _ (π : Policy) (Own : Directory → Type 0) (p : Pays π Own) (x : ℕ) (d : Directory) (shared : Shared d) (own : Own d) where
+module _ (π : Policy) (Own : Directory → Type 0) (p : Pays π Own) (x : ℕ) (d : Directory) (shared : Shared d)
+    (own : Own d) where
   pays : serve π x d .moves + π .owed (serve π x d .dir) ≤ π .movesEach + π .owed d
   pays =
       serve-by-cases π x d Paid
@@ -96,20 +97,19 @@ pub run-moves-at-most : RunMovesAtMost
 run-moves-at-most trace d s = omega (arith, run-moves zeroTally trace d s)
 
 -- Demand 3: from a fresh directory, which owes nothing.
-module _ (policy : ℕ) (known : knownPolicy policy ≡ true) (c : ℕ) (least : 1 ≤ c) (most : c ≤ 1024) (trace : List ℕ) where
+module _ (policy : ℕ) (known : knownPolicy policy ≡ true) (c : ℕ) (least : 1 ≤ c) (most : c ≤ 1024)
+    (trace : List ℕ) where
   fresh-sound : Sound (fresh policy c)
   fresh-sound = fresh-is-sound policy c known (simp reads (least, most))
 
   last-at-most : (x : ℕ) → lastMoves policy c trace x ≤ policyOf policy .mostMoves c
   last-at-most x =
+      let d = fresh policy c in
       let s = fresh-sound in
-      let d = after trace (fresh policy c) in
-      let bound = request-moves-at-most x d (run-keeps trace (fresh policy c) s) in
-      let same =
-      ap₂ (λ (n m : ℕ). policyOf n .mostMoves m) (run-same-policy trace (fresh policy c) s)
-      (run-same-size trace (fresh policy c) s) in
-      subst (λ (d : Directory). request x d .moves ≤ policyOf policy .mostMoves c)
-      (sym (run-after zeroTally trace (fresh policy c))) (omega arith)
+      let bound = request-moves-at-most x (after trace d) (run-keeps trace d s) in
+      let same = ap₂ (λ (n m : ℕ). policyOf n .mostMoves m) (run-same-policy trace d s) (run-same-size trace d s) in
+      subst (λ (d′ : Directory). request x d′ .moves ≤ policyOf policy .mostMoves c) (sym (run-after zeroTally trace d))
+      (omega arith)
 
   run-at-most : run trace (fresh policy c) .tally .moves ≤ policyOf policy .movesEach * ∣ trace ∣
   run-at-most =
