@@ -6,13 +6,12 @@ use mathlib.Core.List.{List, [], _∷_, _++_, map}
 use Prim.Native.Nat.{ℕ, _*_, _-_}
 use lib.ListN.{getD, take, drop, replicate}
 use lib.Dec.{eqb}
-use Rattle.terms.specs.Choice.{if_then_else_, ∣_∣, every}
+use Rattle.terms.specs.Choice.{if_then_else_, ∣_∣, every, same}
 use Rattle.terms.specs.Policies.{car, cart}
 use Rattle.figures.specs.Directory.{unit, fresh}
 use Rattle.figures.specs.Words.{words}
 use Rattle.figures.specs.Sound.{sound}
 use Rattle.figures.specs.Request.{Served, request}
-use Rattle.text.specs.Text.{same}
 use Rattle.figures.specs.Run.{Ran, run}
 
 -- A case replays its trace from a fresh directory; what it shows is the last request's answer and the directory then.

@@ -8,12 +8,12 @@ use native.Mathlib.Omega.{arith}
 use lib.ListN.{drop}
 use lib.Dec.{ltb}
 use borrow.Author.Tests.{ltb-true}
-use Rattle.terms.specs.Choice.{∣_∣, allAtMost}
+use Rattle.terms.specs.Choice.{∣_∣, allAtMost, same}
 use Rattle.terms.specs.Limits.{knownSize}
 use Rattle.terms.specs.Policies.{knownPolicy}
 use Rattle.terms.proofs.Choice.{by-test, either}
 use Rattle.terms.proofs.Tests.{reads}
-use Rattle.text.specs.Text.{bytes, starts, same}
+use Rattle.text.specs.Text.{bytes, starts}
 use Rattle.sheets.specs.Number.{Value, means, wrong, wholeForm, whole, costForm, missCost}
 use Rattle.sheets.specs.Lines.{Lines, end, unclosed, line, lines, Reading, good, bad, before, under}
 use Rattle.sheets.specs.Bid.{Bid, Meaning, bid, refused, PolicyValue, policyValue, policyMeant, inRange}

@@ -2,12 +2,12 @@
 -- "The first line that is wrong decides the refusal, and its number from 1 is given with it".
 use mathlib.Core.List.{List, [], _∷_}
 use Prim.Native.Nat.{ℕ, suc, _+_}
-use lib.Dec.{leb, ltb}
-use Rattle.terms.specs.Choice.{if_then_else_, ∣_∣}
+use lib.Dec.{ltb}
+use Rattle.terms.specs.Choice.{if_then_else_, ∣_∣, same}
 use Rattle.terms.specs.Limits.{mostPages, mostSheetBytes, knownSize}
 use Rattle.terms.specs.Policies.{Named, car, policies}
 use Rattle.terms.specs.Refusals.{policyNotKnown, sizeNotKnown, tooManyPages, sheetTooLong}
-use Rattle.text.specs.Text.{bytes, same}
+use Rattle.text.specs.Text.{bytes}
 use Rattle.sheets.specs.Number.{Value, means, wrong, whole, missCost}
 use Rattle.sheets.specs.Lines.{Lines, end, unclosed, line, lines, Reading, good, bad, under}
 

@@ -1,10 +1,10 @@
--- The words that rules are written with: a choice by a test, all of some tests, the size of a list.
+-- The words that rules are written with: a choice by a test, all of some tests, the size of a list, two lists compared.
 -- Nothing here is about caches or sheets.
 use mathlib.Core.Bool.{Bool, true, false}
 use mathlib.Core.List.{List, [], _∷_}
 use Prim.Native.Nat.{ℕ}
 use lib.ListN.{length}
-use lib.Dec.{leb}
+use lib.Dec.{leb, eqb}
 
 infix 10 if_then_else_
 infix 60 ∣_∣
@@ -24,3 +24,10 @@ every (b ∷ l) = if b then every l else false
 abbrev pub allAtMost : ℕ → List ℕ → Bool
 allAtMost n [] = true
 allAtMost n (x ∷ w) = if leb x n then allAtMost n w else false
+
+-- Two lists are the same.
+abbrev pub same : List ℕ → List ℕ → Bool
+same [] [] = true
+same [] (y ∷ b) = false
+same (x ∷ a) [] = false
+same (x ∷ a) (y ∷ b) = if eqb x y then same a b else false

@@ -1,7 +1,7 @@
 -- The limits of document 01: how large a cache, a trace, a sheet may be, and how many bytes a result sheet is lent.
 -- Each is decided here alone; code has them in src/limits.
 use mathlib.Core.Bool.{Bool, _&&_}
-use Prim.Native.Nat.{ℕ, _+_}
+use Prim.Native.Nat.{ℕ}
 use lib.Dec.{leb}
 
 -- "c, 1 to 1,024"

@@ -9,9 +9,9 @@ use lib.ListN.{getD, drop}
 use lib.Seq.{drop-cons}
 use lib.Dec.{eqb}
 use borrow.Author.Tests.{eq-eqb, ne-eqb}
-use Rattle.terms.specs.Choice.{if_then_else_, ∣_∣}
+use Rattle.terms.specs.Choice.{if_then_else_, ∣_∣, same}
 use Rattle.terms.proofs.Choice.{either}
-use Rattle.text.specs.Text.{starts, same}
+use Rattle.text.specs.Text.{starts}
 
 -- Bytes from a place inside: the byte there, then those from the next place.
 pub from-place : (s : List ℕ) (i : ℕ) → i < ∣ s ∣ → drop i s ≡ getD s i 0 ∷ drop (i + 1) s

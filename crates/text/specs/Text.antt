@@ -1,4 +1,4 @@
--- Bytes, as a reader quotes and compares them; where a byte first stands is the kit's `indexOf`.
+-- Bytes, as a reader quotes them and looks for a key; where a byte first stands is the kit's `indexOf`.
 -- Nothing here is about sheets.
 use mathlib.Core.Bool.{Bool, true, false}
 use mathlib.Core.List.{List, [], _∷_}
@@ -18,10 +18,3 @@ abbrev pub starts : List ℕ → List ℕ → Bool
 starts [] s = true
 starts (k ∷ key) [] = false
 starts (k ∷ key) (b ∷ s) = if eqb b k then starts key s else false
-
--- Two texts are the same.
-abbrev pub same : List ℕ → List ℕ → Bool
-same [] [] = true
-same [] (y ∷ b) = false
-same (x ∷ a) [] = false
-same (x ∷ a) (y ∷ b) = if eqb x y then same a b else false

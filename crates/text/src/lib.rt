@@ -1,7 +1,8 @@
 // Bytes compared: a key in front of them, two texts the same.
 // Every function takes any bytes.
 ghost use mathlib.Core.Path.{_≡_};
-ghost use Rattle.text.specs.Text.{starts, same};
+ghost use Rattle.terms.specs.Choice.{same};
+ghost use Rattle.text.specs.Text.{starts};
 
 pub fn starts_with(bytes: &[u8], key: &[u8]) -> bool
     ensures { λ r. ⌜ r ≡ starts (now (key .entry)) (now (bytes .entry)) ⌝ }

@@ -4,9 +4,9 @@ use mathlib.Core.Bool.{Bool}
 use mathlib.Core.List.{List, []}
 use Prim.Native.Nat.{ℕ}
 use borrow.Author.Needs.{needs}
-use Rattle.terms.specs.Choice.{if_then_else_}
+use Rattle.terms.specs.Choice.{if_then_else_, same}
 use Rattle.terms.specs.Policies.{car, cart}
-use Rattle.text.specs.Text.{bytes, same}
+use Rattle.text.specs.Text.{bytes}
 use Rattle.sheets.specs.Bid.{PolicyValue, named, blank, unknown, policyValue}
 use Rattle.text.proofs.Text.{same-starts, lengths-differ}
 use Rattle.bid.proofs.keyed_lines.policy_value.Statement.{statement}
