@@ -11,8 +11,9 @@ use lib.Seq.{length-take-le, set-set, set-comm, set-getD}
 use Rattle.terms.specs.Choice.{if_then_else_, ∣_∣}
 use Rattle.figures.specs.Entry.{Entry, newShort, cleared, marked, has, mark, without, dropHead}
 use Rattle.figures.specs.Directory.{Directory, T1, T2, listOf, withList, toTail, hit, placeNew, cached, remembered, listed}
-use Rattle.figures.specs.Words.{flags, words, zeros, encode}
+use Rattle.figures.specs.Words.{flags, words, zeros}
 use Rattle.laws.proofs.Lists.{HasHead, has-head, length-tail, length-marked, length-head-dropped, length-without}
+use Rattle.entries.specs.Holds.{Holds}
 use Rattle.entries.specs.Stretches.{nameOf, startOf, index}
 use Rattle.entries.specs.Leaves.{ToEnd, PutIn, TakenOut}
 use Rattle.entries.proofs.Laid.{heads, flags-cleared, flags-marked, length-listed, insert, length-insert, listed-around, listed-tail}
@@ -24,7 +25,7 @@ use Rattle.entries.proofs.Moving.{no-length-set, one-length-set, two-le
 
 -- The head of list i, as e′, at the tail of list j.
 module _ (i j : ℕ) (d : Directory) (e e′ : Entry) (es : List Entry) (w L : List ℕ) (v : ℕ) (low : i ≤ 1) (order : i ≤ j) (high : j ≤ 3)
-    (is : encode d ≡ w) (front : listOf (nameOf i) d ≡ e ∷ es) (page : e′ .page ≡ e .page) (new : v ≡ flags e′)
+    (is : Holds d w) (front : listOf (nameOf i) d ≡ e ∷ es) (page : e′ .page ≡ e .page) (new : v ≡ flags e′)
     (s z : ℕ) (start : s ≡ startOf i w) (end : z ≡ startOf (j + 1) w) (does : ToEnd s z v w L) where
   abbrev without-head : Directory
   without-head = withList (nameOf i) es d
@@ -64,14 +65,14 @@ module _ (i j : ℕ) (d : Directory) (e e′ : Entry) (es : List Entry) (w L : L
   lengths : heads with-tail ≡ set (set (heads d) (4 + i) ∣ es ∣) (4 + j) (∣ listOf (nameOf j) without-head ∣ + 1)
   lengths = heads-with j _ without-head high ∙ rw (length-tail, heads-with i es d (omega arith))
 
-  pub head-to-other-tail : i < j → set (set L (4 + i) (getD w (4 + i) 0 - 1)) (4 + j) (getD w (4 + j) 0 + 1) ≡ encode with-tail
+  pub head-to-other-tail : i < j → Holds with-tail (set (set L (4 + i) (getD w (4 + i) 0 - 1)) (4 + j) (getD w (4 + j) 0 + 1))
   head-to-other-tail h =
       let n : getD w (4 + i) 0 - 1 ≡ ∣ es ∣ = omega (arith, length-of-list i d w is (omega arith), length-list) in
       let m : getD w (4 + j) 0 + 1 ≡ ∣ listOf (nameOf j) without-head ∣ + 1 =
       omega (arith, length-of-list j d w is high, length-of-other i j es d (omega arith) high (λ e. omega arith)) in
       two-lengths-set d with-tail L turned i j _ _ (omega arith) high (lengths ∙ rw (n, m))
 
-  pub head-to-own-tail : j ≤ i → L ≡ encode with-tail
+  pub head-to-own-tail : j ≤ i → Holds with-tail L
   head-to-own-tail h =
       let own : j ≡ i = omega arith in
       let n : ∣ listOf (nameOf j) without-head ∣ + 1 ≡ getD (heads d) (4 + i) 0 =
@@ -84,7 +85,7 @@ module _ (i j : ℕ) (d : Directory) (e e′ : Entry) (es : List Entry) (w L : L
 
 -- The first entry for page x of list b, as e′, at the tail of list t.
 module _ (t b k : ℕ) (d : Directory) (e′ : Entry) (w L : List ℕ) (x v : ℕ) (low : t ≤ 1) (late : 2 ≤ b) (high : b ≤ 3)
-    (is : encode d ≡ w) (within : k < getD w (4 + b) 0) (here : k ≡ index x (listOf (nameOf b) d)) (page : e′ .page ≡ x) (new : v ≡ flags e′)
+    (is : Holds d w) (within : k < getD w (4 + b) 0) (here : k ≡ index x (listOf (nameOf b) d)) (page : e′ .page ≡ x) (new : v ≡ flags e′)
     (s z : ℕ) (start : s ≡ startOf (t + 1) w) (end : z ≡ startOf b w + 2 * k + 2) (does : PutIn s z x v w L) where
   abbrev without-page : Directory
   without-page = withList (nameOf b) (without x (listOf (nameOf b) d)) d
@@ -128,13 +129,13 @@ module _ (t b k : ℕ) (d : Directory) (e′ : Entry) (w L : List ℕ) (x v : �
       ∙ (rw (n, heads-with b _ d high, m))
       ∙ set-comm (heads d) (4 + b) (4 + t) _ _ (λ e. omega arith)
 
-  pub page-to-tail : set (set L (4 + t) (getD w (4 + t) 0 + 1)) (4 + b) (getD w (4 + b) 0 - 1) ≡ encode come-back
+  pub page-to-tail : Holds come-back (set (set L (4 + t) (getD w (4 + t) 0 + 1)) (4 + b) (getD w (4 + b) 0 - 1))
   page-to-tail = two-lengths-set d come-back L brought t b _ _ (omega arith) high lengths-there
 
 -- A new page at the tail of T1.
-module _ (d : Directory) (x : ℕ) (w L : List ℕ) (is : encode d ≡ w) (room : startOf 4 w + 2 ≤ length w)
+module _ (d : Directory) (x : ℕ) (w L : List ℕ) (is : Holds d w) (room : startOf 4 w + 2 ≤ length w)
     (s z : ℕ) (start : s ≡ startOf 1 w) (end : z ≡ startOf 4 w + 2) (does : PutIn s z x 0 w L) where
-  pub new-at-tail : set L 4 (getD w 4 0 + 1) ≡ encode (placeNew x d)
+  pub new-at-tail : Holds (placeNew x d) (set L 4 (getD w 4 0 + 1))
   unfolding placeNew
   new-at-tail =
       let e = newShort x in
@@ -146,7 +147,7 @@ module _ (d : Directory) (x : ℕ) (w L : List ℕ) (is : encode d ≡ w) (room 
       one-length-set d d′ L (added d d′ (d .t1) rest e w L s z is refl a b refl (simp append-assoc) (omega arith) does) 0 _ (omega arith) (rw n)
 
 -- List b without its head.
-module _ (b : ℕ) (d : Directory) (w L : List ℕ) (high : b ≤ 3) (is : encode d ≡ w) (some : 1 ≤ getD w (4 + b) 0)
+module _ (b : ℕ) (d : Directory) (w L : List ℕ) (high : b ≤ 3) (is : Holds d w) (some : 1 ≤ getD w (4 + b) 0)
     (fits : cached d + remembered d ≤ 2 * d .c) (s z : ℕ) (start : s ≡ startOf b w) (end : z ≡ startOf 4 w) (does : TakenOut s z w L) where
   abbrev shorter : Directory
   shorter = withList (nameOf b) (dropHead (listOf (nameOf b) d)) d
@@ -163,7 +164,7 @@ module _ (b : ℕ) (d : Directory) (w L : List ℕ) (high : b ≤ 3) (is : encod
   in-reach : place b d ≤ ∣ listed shorter ∣
   in-reach = omega (arith, one-dropped, places-within (b + 1) d, place-next b d high, length-of-list b d w is high)
 
-  pub head-dropped : set L (4 + b) (getD w (4 + b) 0 - 1) ≡ encode shorter
+  pub head-dropped : Holds shorter (set L (4 + b) (getD w (4 + b) 0 - 1))
   head-dropped =
       let all = length-listed d in
       let a : s ≡ 8 + 2 * ∣ take (place b d) (listed shorter) ∣ =
@@ -178,10 +179,10 @@ module _ (b : ℕ) (d : Directory) (w L : List ℕ) (high : b ≤ 3) (is : encod
       one-length-set d shorter L left b _ high (heads-with b _ d high ∙ rw n)
 
 -- The head of T2, its bit cleared, at the tail of T1.
-module _ (d : Directory) (e : Entry) (es : List Entry) (w : List ℕ) (at : ℕ) (is : encode d ≡ w) (front : d .t2 ≡ e ∷ es)
+module _ (d : Directory) (e : Entry) (es : List Entry) (w : List ℕ) (at : ℕ) (is : Holds d w) (front : d .t2 ≡ e ∷ es)
     (here : at ≡ 9 + 2 * getD w 4 0) where
-  pub border-moved : set (set (set w at (getD w at 0 - getD w at 0 % 2)) 4 (getD w 4 0 + 1)) 5 (getD w 5 0 - 1)
-      ≡ encode (toTail T1 (cleared e) (withList T2 es d))
+  pub border-moved : Holds (toTail T1 (cleared e) (withList T2 es d))
+      (set (set (set w at (getD w at 0 - getD w at 0 % 2)) 4 (getD w 4 0 + 1)) 5 (getD w 5 0 - 1))
   border-moved =
       let d′ = toTail T1 (cleared e) (withList T2 es d) in
       let C = es ++ (d .b1 ++ d .b2) in
@@ -216,11 +217,11 @@ module _ (d : Directory) (x : ℕ) where
   hit-size : hit x d .c ≡ d .c
   hit-size = ap (λ (l : List ℕ). getD l 1 0) hit-heads
 
-  module _ (k : ℕ) (w : List ℕ) (is : encode d ≡ w) (within : k < getD w 4 0 + getD w 5 0) (here : k ≡ index x (d .t1 ++ d .t2)) where
+  module _ (k : ℕ) (w : List ℕ) (is : Holds d w) (within : k < getD w 4 0 + getD w 5 0) (here : k ≡ index x (d .t1 ++ d .t2)) where
     cache : Around x (d .t1 ++ d .t2)
     cache = around x (d .t1 ++ d .t2) (simp length-append (omega (arith, length-of-list 0 d w is (omega arith), length-of-list 1 d w is (omega arith))))
 
-    pub bit-set : set w (8 + 2 * k + 1) (getD w (8 + 2 * k + 1) 0 - getD w (8 + 2 * k + 1) 0 % 2 + 1) ≡ encode (hit x d)
+    pub bit-set : Holds (hit x d) (set w (8 + 2 * k + 1) (getD w (8 + 2 * k + 1) 0 - getD w (8 + 2 * k + 1) 0 % 2 + 1))
     bit-set =
         let C = cache .behind ++ (d .b1 ++ d .b2) in
         let from : listed d ≡ cache .ahead ++ (cache .it ∷ C) =

@@ -12,6 +12,7 @@ use Rattle.figures.specs.Entry.{Entry, Filter, S, L, longOf, marked, cleared}
 use Rattle.figures.specs.Directory.{Directory, listOf, withP, withQ, withList, toTail, cached, remembered, listed}
 use Rattle.figures.specs.Words.{flags, words, zeros, encode}
 use Rattle.laws.proofs.Encoding.{words-append}
+use Rattle.entries.specs.Holds.{Holds}
 use Rattle.entries.specs.Stretches.{nameOf, startOf}
 use Rattle.entries.proofs.Starts.{starts-in-order, starts-within}
 
@@ -50,11 +51,11 @@ pub header : (d : Directory) (w : List ℕ) → encode d ≡ w → Header d w
 header d w is = subst (Header d) is (record { policy = refl; c = refl; p = refl; q = refl; t1 = refl; t2 = refl; b1 = refl; b2 = refl })
 
 -- The words with another target.
-pub with-p : (d : Directory) {w : List ℕ} {p p′ : ℕ} → w ≡ encode d → p ≡ p′ → set w 2 p ≡ encode (withP p′ d)
-with-p d {w} {p} is same = ap (λ (l : List ℕ). set l 2 p) is ∙ ap (λ (n : ℕ). encode (withP n d)) same
+pub with-p : (d : Directory) {w : List ℕ} {p p′ : ℕ} → Holds d w → p ≡ p′ → Holds (withP p′ d) (set w 2 p)
+with-p d {w} {p} is same = ap (λ (n : ℕ). encode (withP n d)) (sym same) ∙ ap (λ (l : List ℕ). set l 2 p) is
 
-pub with-q : (d : Directory) {w : List ℕ} {q q′ : ℕ} → w ≡ encode d → q ≡ q′ → set w 3 q ≡ encode (withQ q′ d)
-with-q d {w} {q} is same = ap (λ (l : List ℕ). set l 3 q) is ∙ ap (λ (n : ℕ). encode (withQ n d)) same
+pub with-q : (d : Directory) {w : List ℕ} {q q′ : ℕ} → Holds d w → q ≡ q′ → Holds (withQ q′ d) (set w 3 q)
+with-q d {w} {q} is same = ap (λ (n : ℕ). encode (withQ n d)) (sym same) ∙ ap (λ (l : List ℕ). set l 3 q) is
 
 pub length-listed : (d : Directory) → ∣ listed d ∣ ≡ cached d + remembered d
 length-listed d = simp length-append (omega arith)

@@ -11,4 +11,3 @@ pub mod Counting
 pub mod Bounds
 pub mod Heads
 pub mod Rooms
-pub mod Placed

@@ -11,6 +11,7 @@ use Rattle.figures.specs.Entry.{Entry}
 use Rattle.figures.specs.Directory.{Directory, listed}
 use Rattle.figures.specs.Words.{flags, words, zeros, encode}
 use Rattle.laws.proofs.Encoding.{words-append, length-words}
+use Rattle.entries.specs.Holds.{Holds}
 use Rattle.entries.specs.Leaves.{ToEnd, PutIn, TakenOut}
 use Rattle.entries.proofs.Laid.{heads, laid, zeros-after, insert}
 
@@ -98,21 +99,24 @@ module _ (d d′ : Directory) (A C : List Entry) (e e′ : Entry) (w : List ℕ)
 
 -- The words once the lengths in front are stored.
 module _ (d d′ : Directory) (L : List ℕ) (is : L ≡ heads d ++ (words (listed d′) ++ zeros d′)) where
-  pub no-length-set : heads d′ ≡ heads d → L ≡ encode d′
-  no-length-set e = is ∙ ap (λ (l : List ℕ). l ++ (words (listed d′) ++ zeros d′)) (sym e) ∙ sym (laid d′)
+  pub no-length-set : heads d′ ≡ heads d → Holds d′ L
+  no-length-set e = laid d′ ∙ ap (λ (l : List ℕ). l ++ (words (listed d′) ++ zeros d′)) e ∙ sym is
 
-  pub one-length-set : (i n : ℕ) → i ≤ 3 → heads d′ ≡ set (heads d) (4 + i) n → set L (4 + i) n ≡ encode d′
+  pub one-length-set : (i n : ℕ) → i ≤ 3 → heads d′ ≡ set (heads d) (4 + i) n → Holds d′ (set L (4 + i) n)
   one-length-set i n h e =
-      ap (λ (l : List ℕ). set l (4 + i) n) is
+      sym
+      (ap (λ (l : List ℕ). set l (4 + i) n) is
       ∙ set-append-left (heads d) _ (4 + i) n (omega arith)
-      ∙ rw (← e, ← laid d′)
+      ∙ rw (← e, ← laid d′))
 
-  pub two-lengths-set : (i j n m : ℕ) → i ≤ 3 → j ≤ 3 → heads d′ ≡ set (set (heads d) (4 + i) n) (4 + j) m → set (set L (4 + i) n) (4 + j) m ≡ encode d′
+  pub two-lengths-set : (i j n m : ℕ) → i ≤ 3 → j ≤ 3 → heads d′ ≡ set (set (heads d) (4 + i) n) (4 + j) m
+      → Holds d′ (set (set L (4 + i) n) (4 + j) m)
   two-lengths-set i j n m h k e =
-      ap (λ (l : List ℕ). set (set l (4 + i) n) (4 + j) m) is
+      sym
+      (ap (λ (l : List ℕ). set (set l (4 + i) n) (4 + j) m) is
       ∙ ap (λ (l : List ℕ). set l (4 + j) m) (set-append-left (heads d) _ (4 + i) n (omega arith))
       ∙ set-append-left (set (heads d) (4 + i) n) _ (4 + j) m (simp length-set (omega arith))
-      ∙ rw (← e, ← laid d′)
+      ∙ rw (← e, ← laid d′))
 
 -- A list in three parts, by two places.
 pub record Parts (l : List Entry) (a b : ℕ) : Type 0 where

@@ -6,12 +6,9 @@ use Prim.Native.Nat.{ℕ, _+_, _*_, _≤_}
 use Rattle.terms.specs.Choice.{∣_∣}
 use Rattle.figures.specs.Entry.{Entry, cleared, without, dropHead, total}
 use Rattle.figures.specs.Directory.{Directory, T1, T2, listOf, withList, toTail, hit, cached, remembered}
-use Rattle.figures.specs.Words.{flags, words, encode}
+use Rattle.figures.specs.Words.{flags, words}
+use Rattle.entries.specs.Holds.{Holds}
 use Rattle.entries.specs.Stretches.{nameOf, index, ofFlag}
-
--- The words of a directory become those of what f makes of it.
-abbrev pub Makes : (Directory → Directory) → List ℕ → List ℕ → Type 0
-Makes f w w′ = (d : Directory) → encode d ≡ w → w′ ≡ encode (f d)
 
 -- The entry at word a becomes the last before word e, with flags f′.
 abbrev pub ToEnd : ℕ → ℕ → ℕ → List ℕ → List ℕ → Type 0
@@ -34,31 +31,31 @@ TakenOut a e w w′ =
 -- The head of list i, with flags f′, becomes the tail of list j.
 abbrev pub HeadMoved : ℕ → ℕ → ℕ → List ℕ → List ℕ → Type 0
 HeadMoved i j f′ w w′ =
-    (d : Directory) (e e′ : Entry) (es : List Entry) → encode d ≡ w → listOf (nameOf i) d ≡ e ∷ es
+    (d : Directory) (e e′ : Entry) (es : List Entry) → Holds d w → listOf (nameOf i) d ≡ e ∷ es
     → e′ .page ≡ e .page → f′ ≡ flags e′
-    → w′ ≡ encode (toTail (nameOf j) e′ (withList (nameOf i) es d))
+    → Holds (toTail (nameOf j) e′ (withList (nameOf i) es d)) w′
 
 -- T2's head, its bit cleared, becomes T1's tail.
 abbrev pub BorderMoved : List ℕ → List ℕ → Type 0
 BorderMoved w w′ =
-    (d : Directory) (e : Entry) (es : List Entry) → encode d ≡ w → d .t2 ≡ e ∷ es
-    → w′ ≡ encode (toTail T1 (cleared e) (withList T2 es d))
+    (d : Directory) (e : Entry) (es : List Entry) → Holds d w → d .t2 ≡ e ∷ es
+    → Holds (toTail T1 (cleared e) (withList T2 es d)) w′
 
 -- Entry k of the history b, which is for page, becomes the tail of list t with flags f′.
 abbrev pub CameBack : ℕ → ℕ → ℕ → ℕ → ℕ → List ℕ → List ℕ → Type 0
 CameBack b k t page f′ w w′ =
-    (d : Directory) (e′ : Entry) → encode d ≡ w → k ≡ index page (listOf (nameOf b) d) → e′ .page ≡ page → f′ ≡ flags e′
-    → w′ ≡ encode (toTail (nameOf t) e′ (withList (nameOf b) (without page (listOf (nameOf b) d)) d))
+    (d : Directory) (e′ : Entry) → Holds d w → k ≡ index page (listOf (nameOf b) d) → e′ .page ≡ page → f′ ≡ flags e′
+    → Holds (toTail (nameOf t) e′ (withList (nameOf b) (without page (listOf (nameOf b) d)) d)) w′
 
 -- The head of the history b is dropped.
 abbrev pub HeadDropped : ℕ → List ℕ → List ℕ → Type 0
 HeadDropped b w w′ =
-    (d : Directory) → encode d ≡ w → cached d + remembered d ≤ 2 * d .c
-    → w′ ≡ encode (withList (nameOf b) (dropHead (listOf (nameOf b) d)) d)
+    (d : Directory) → Holds d w → cached d + remembered d ≤ 2 * d .c
+    → Holds (withList (nameOf b) (dropHead (listOf (nameOf b) d)) d) w′
 
 -- The reference bit of entry k of T1 and T2 together is set.
 abbrev pub Marked : ℕ → List ℕ → List ℕ → Type 0
-Marked k w w′ = (d : Directory) (x : ℕ) → encode d ≡ w → k ≡ index x (d .t1 ++ d .t2) → w′ ≡ encode (hit x d)
+Marked k w w′ = (d : Directory) (x : ℕ) → Holds d w → k ≡ index x (d .t1 ++ d .t2) → Holds (hit x d) w′
 
 -- What is so of every list of n entries that stands in the words from word a on.
 abbrev pub OfEntries : List ℕ → ℕ → ℕ → (List Entry → Type 0) → Type 0

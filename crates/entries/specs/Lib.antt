@@ -1,4 +1,4 @@
 -- What the contracts of the engine name beside the definitions of figures.
+pub mod Holds
 pub mod Stretches
-pub mod Answers
 pub mod Leaves

@@ -4,8 +4,10 @@ ghost use mathlib.Core.Path.{_≡_};
 ghost use Prim.Native.Nat.{_+_, _≤_, _<_};
 ghost use lib.ListN.{length, getD};
 ghost use Rattle.figures.specs.Directory.{placeNew};
+ghost use Rattle.engine.specs.Shown.{Makes};
+ghost use Rattle.entries.specs.Holds.{Holds};
 ghost use Rattle.entries.specs.Stretches.{Room, startOf};
-ghost use Rattle.entries.specs.Leaves.{Makes, HeadMoved, BorderMoved, CameBack, HeadDropped, Marked};
+ghost use Rattle.entries.specs.Leaves.{HeadMoved, BorderMoved, CameBack, HeadDropped, Marked};
 use crate::header;
 use crate::stretch;
 
@@ -80,7 +82,7 @@ pub fn t2_head_to_t1(dir: &mut [u32])
 pub fn place_new(dir: &mut [u32], page: u32)
     requires { ⌜ Room (now dir) ⌝ }
     requires { ⌜ startOf 4 (now dir) + 2 ≤ length (now dir) ⌝ }
-    ensures { λ _. ⌜ Makes (placeNew page) (now (dir .entry)) (now (dir .exit)) ⌝ }
+    ensures { λ _. ⌜ Makes Holds (placeNew page) (now (dir .entry)) (now (dir .exit)) ⌝ }
 {
     let a = start_of(dir, T2);
     let e = start_of(dir, END);

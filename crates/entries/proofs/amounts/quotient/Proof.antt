@@ -2,8 +2,8 @@
 use mathlib.Core.Path.{refl}
 use native.Mathlib.Nat.{div-le-self}
 use borrow.Author.Needs.{needs}
-use Rattle.entries.proofs.numbers.quotient.Statement.{statement}
-use Rattle.entries.proofs.numbers.quotient.Tie as tie
+use Rattle.entries.proofs.amounts.quotient.Statement.{statement}
+use Rattle.entries.proofs.amounts.quotient.Tie as tie
 
 div-result : tie.Need-div-result
 div-result c = search needs
