@@ -3,7 +3,7 @@
 use mathlib.Core.Path.{_≡_, refl, sym, ap, _∙_}
 use mathlib.Core.Bool.{Bool, true, false}
 use mathlib.Core.List.{List, [], _∷_, _++_, append-assoc}
-use Prim.Native.Nat.{ℕ, _+_, _-_, _*_, _%_, _≤_, _<_}
+use Prim.Native.Nat.{ℕ, _+_, _-_, _*_, _≤_, _<_}
 use native.Mathlib.Nat.{add-zero}
 use native.Mathlib.Omega.{arith}
 use lib.ListN.{length, getD, set, take, drop, length-append, length-drop, take-append-drop}
@@ -14,9 +14,10 @@ use Rattle.figures.specs.Directory.{Directory, T1, T2, listOf, withList, toTail
 use Rattle.figures.specs.Words.{flags, words, zeros}
 use Rattle.laws.proofs.Lists.{HasHead, has-head, length-tail, length-marked, length-head-dropped, length-without}
 use Rattle.entries.specs.Holds.{Holds}
+use Rattle.entries.specs.Flags.{Becomes}
 use Rattle.entries.specs.Stretches.{nameOf, startOf, index}
 use Rattle.entries.specs.Leaves.{ToEnd, PutIn, TakenOut}
-use Rattle.entries.proofs.Laid.{heads, flags-cleared, flags-marked, length-listed, insert, length-insert, listed-around, listed-tail}
+use Rattle.entries.proofs.Laid.{heads, length-listed, insert, length-insert, listed-around, listed-tail}
 use Rattle.entries.proofs.Laid.{place, start-of-place, places-in-order, places-within, place-next, place-behind, place-before}
 use Rattle.entries.proofs.Laid.{heads-with, list-with, size-with, length-in-heads, length-of-list, length-of-other}
 use Rattle.entries.proofs.Indexes.{index-has, Around, around, mark-append}
@@ -179,10 +180,10 @@ module _ (b : ℕ) (d : Directory) (w L : List ℕ) (high : b ≤ 3) (is : Holds
       one-length-set d shorter L left b _ high (heads-with b _ d high ∙ rw n)
 
 -- The head of T2, its bit cleared, at the tail of T1.
-module _ (d : Directory) (e : Entry) (es : List Entry) (w : List ℕ) (at : ℕ) (is : Holds d w) (front : d .t2 ≡ e ∷ es)
-    (here : at ≡ 9 + 2 * getD w 4 0) where
+module _ (d : Directory) (e : Entry) (es : List Entry) (w : List ℕ) (at v : ℕ) (is : Holds d w) (front : d .t2 ≡ e ∷ es)
+    (here : at ≡ 9 + 2 * getD w 4 0) (new : Becomes cleared (getD w at 0) v) where
   pub border-moved : Holds (toTail T1 (cleared e) (withList T2 es d))
-      (set (set (set w at (getD w at 0 - getD w at 0 % 2)) 4 (getD w 4 0 + 1)) 5 (getD w 5 0 - 1))
+      (set (set (set w at v) 4 (getD w 4 0 + 1)) 5 (getD w 5 0 - 1))
   border-moved =
       let d′ = toTail T1 (cleared e) (withList T2 es d) in
       let C = es ++ (d .b1 ++ d .b2) in
@@ -194,7 +195,7 @@ module _ (d : Directory) (e : Entry) (es : List Entry) (w : List ℕ) (at : ℕ)
       let m : getD w 5 0 - 1 ≡ ∣ es ∣ = omega (arith, ap (λ (l : List Entry). ∣ l ∣) front) in
       two-lengths-set d d′ _
       (reflagged d d′ (d .t1) C e (cleared e) w at _ is it from (simp append-assoc) refl refl
-      (flags-cleared e _ (flags-at d d′ (d .t1) C e (cleared e) w at 0 is it from)))
+      (new e (flags-at d d′ (d .t1) C e (cleared e) w at 0 is it from)))
       0 1 _ _ (omega arith) (omega arith) (rw (n, m))
 
 -- Page x of T1 or T2 with its bit set.
@@ -217,11 +218,12 @@ module _ (d : Directory) (x : ℕ) where
   hit-size : hit x d .c ≡ d .c
   hit-size = ap (λ (l : List ℕ). getD l 1 0) hit-heads
 
-  module _ (k : ℕ) (w : List ℕ) (is : Holds d w) (within : k < getD w 4 0 + getD w 5 0) (here : k ≡ index x (d .t1 ++ d .t2)) where
+  module _ (k v : ℕ) (w : List ℕ) (is : Holds d w) (within : k < getD w 4 0 + getD w 5 0) (here : k ≡ index x (d .t1 ++ d .t2))
+      (new : Becomes marked (getD w (8 + 2 * k + 1) 0) v) where
     cache : Around x (d .t1 ++ d .t2)
     cache = around x (d .t1 ++ d .t2) (simp length-append (omega (arith, length-of-list 0 d w is (omega arith), length-of-list 1 d w is (omega arith))))
 
-    pub bit-set : Holds (hit x d) (set w (8 + 2 * k + 1) (getD w (8 + 2 * k + 1) 0 - getD w (8 + 2 * k + 1) 0 % 2 + 1))
+    pub bit-set : Holds (hit x d) (set w (8 + 2 * k + 1) v)
     bit-set =
         let C = cache .behind ++ (d .b1 ++ d .b2) in
         let from : listed d ≡ cache .ahead ++ (cache .it ∷ C) =
@@ -231,5 +233,5 @@ module _ (d : Directory) (x : ℕ) where
         let it : 8 + 2 * k + 1 ≡ 9 + 2 * ∣ cache .ahead ∣ = omega (arith, cache .length-ahead) in
         no-length-set d (hit x d) _
         (reflagged d (hit x d) (cache .ahead) C (cache .it) (marked (cache .it)) w (8 + 2 * k + 1) _ is it from to hit-size refl
-        (flags-marked (cache .it) _ (flags-at d (hit x d) (cache .ahead) C (cache .it) (cache .it) w (8 + 2 * k + 1) 0 is it from)))
+        (new (cache .it) (flags-at d (hit x d) (cache .ahead) C (cache .it) (cache .it) w (8 + 2 * k + 1) 0 is it from)))
         hit-heads

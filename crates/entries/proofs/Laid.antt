@@ -1,33 +1,19 @@
 -- The words of a directory as three parts: the eight in front, those of all listed entries, the zeros.
 -- What a change of list i, 0 to 3, does to each part, whichever list it is. Assumes nothing.
 use mathlib.Core.Path.{_≡_, refl, sym, ap, _∙_, subst}
-use mathlib.Core.Bool.{Bool, true, false}
 use mathlib.Core.List.{List, [], _∷_, _++_, append-assoc, append-nil}
-use Prim.Native.Nat.{ℕ, zero, suc, _+_, _-_, _*_, _%_, _≤_}
+use Prim.Native.Nat.{ℕ, zero, suc, _+_, _-_, _*_, _≤_}
 use native.Mathlib.Omega.{arith}
 use lib.ListN.{getD, set, take, drop, replicate, length-append, take-append-drop, List·getD-append}
 use lib.Seq.{take-at, drop-at, getD-set-other}
-use Rattle.terms.specs.Choice.{if_then_else_, ∣_∣}
-use Rattle.figures.specs.Entry.{Entry, Filter, S, L, longOf, marked, cleared}
+use Rattle.terms.specs.Choice.{∣_∣}
+use Rattle.figures.specs.Entry.{Entry}
 use Rattle.figures.specs.Directory.{Directory, listOf, withP, withQ, withList, toTail, cached, remembered, listed}
-use Rattle.figures.specs.Words.{flags, words, zeros, encode}
+use Rattle.figures.specs.Words.{words, zeros, encode}
 use Rattle.laws.proofs.Encoding.{words-append}
 use Rattle.entries.specs.Holds.{Holds}
 use Rattle.entries.specs.Stretches.{nameOf, startOf}
 use Rattle.entries.proofs.Starts.{starts-in-order, starts-within}
-
--- The flags word with the reference bit cleared, and set.
-pub flags-cleared : (e : Entry) (f : ℕ) → f ≡ flags e → f - f % 2 ≡ flags (cleared e)
-flags-cleared e f h = go (e .bit) (e .filter) h
-  where
-    go : (bit : Bool) (filter : Filter) → f ≡ (if bit then 1 else 0) + 2 * longOf filter → f - f % 2 ≡ 0 + 2 * longOf filter
-    go true S h = omega arith
-    go true L h = omega arith
-    go false S h = omega arith
-    go false L h = omega arith
-
-pub flags-marked : (e : Entry) (f : ℕ) → f ≡ flags e → f - f % 2 + 1 ≡ flags (marked e)
-flags-marked e f h = let i = flags-cleared e f h in omega arith
 
 -- The eight words in front.
 abbrev pub heads : Directory → List ℕ

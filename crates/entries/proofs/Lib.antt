@@ -1,6 +1,7 @@
 -- The laws that the leaves' proofs cite, by what they are about.
 pub mod Turning
 pub mod Starts
+pub mod Flagged
 pub mod Laid
 pub mod Moving
 pub mod Indexes

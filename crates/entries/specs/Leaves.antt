@@ -8,7 +8,8 @@ use Rattle.figures.specs.Entry.{Entry, cleared, without, dropHead, total}
 use Rattle.figures.specs.Directory.{Directory, T1, T2, listOf, withList, toTail, hit, cached, remembered}
 use Rattle.figures.specs.Words.{flags, words}
 use Rattle.entries.specs.Holds.{Holds}
-use Rattle.entries.specs.Stretches.{nameOf, index, ofFlag}
+use Rattle.entries.specs.Flags.{ofFlag}
+use Rattle.entries.specs.Stretches.{nameOf, index}
 
 -- The entry at word a becomes the last before word e, with flags f′.
 abbrev pub ToEnd : ℕ → ℕ → ℕ → List ℕ → List ℕ → Type 0

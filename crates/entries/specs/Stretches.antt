@@ -4,7 +4,7 @@ use mathlib.Core.List.{List, [], _∷_}
 use Prim.Native.Nat.{ℕ, zero, suc, _+_, _*_, _≤_}
 use lib.Dec.{eqb}
 use Rattle.terms.specs.Choice.{if_then_else_, ∣_∣}
-use Rattle.figures.specs.Entry.{Entry, bits, long}
+use Rattle.figures.specs.Entry.{Entry}
 use Rattle.figures.specs.Directory.{Name, T1, T2, B1, B2}
 use Rattle.figures.specs.Words.{nT1, nT2, nB1, used}
 
@@ -32,7 +32,3 @@ startOf (suc (suc (suc (suc i)))) w = 8 + used w
 abbrev pub index : ℕ → List Entry → ℕ
 index x [] = 0
 index x (e ∷ l) = if eqb (e .page) x then 0 else suc (index x l)
-
--- What an entry counts for by a flag: 1 is its reference bit, 2 the filter L.
-abbrev pub ofFlag : ℕ → Entry → ℕ
-ofFlag flag e = if eqb flag 1 then bits e else long e

@@ -1,6 +1,7 @@
 // The lists of a directory in lent words: leaves that every rule of both policies is made of.
 // Nothing is copied out: a move turns one stretch of words in place and holds one entry.
 pub mod amounts;
+pub mod flags;
 pub mod header;
 pub mod lists;
 pub mod search;

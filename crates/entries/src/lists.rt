@@ -8,6 +8,7 @@ ghost use Rattle.engine.specs.Shown.{Makes};
 ghost use Rattle.entries.specs.Holds.{Holds};
 ghost use Rattle.entries.specs.Stretches.{Room, startOf};
 ghost use Rattle.entries.specs.Leaves.{HeadMoved, BorderMoved, CameBack, HeadDropped, Marked};
+use crate::flags;
 use crate::header;
 use crate::stretch;
 
@@ -72,8 +73,7 @@ pub fn t2_head_to_t1(dir: &mut [u32])
     let n1 = dir[header::T1_LENGTH];
     let n2 = dir[header::T2_LENGTH];
     let at = header::ENTRIES + 2 * wide(n1) + 1;
-    let f = dir[at];
-    dir[at] = f - f % 2;
+    dir[at] = flags::cleared(dir[at]);
     dir[header::T1_LENGTH] = n1 + 1;
     dir[header::T2_LENGTH] = n2 - 1;
 }
@@ -87,7 +87,7 @@ pub fn place_new(dir: &mut [u32], page: u32)
     let a = start_of(dir, T2);
     let e = start_of(dir, END);
     let n = dir[header::T1_LENGTH];
-    stretch::put_in(dir, a, e + 2, page, 0);
+    stretch::put_in(dir, a, e + 2, page, flags::NEW_SHORT);
     dir[header::T1_LENGTH] = n + 1;
 }
 
@@ -126,6 +126,5 @@ pub fn mark(dir: &mut [u32], k: usize)
     ensures { λ _. ⌜ Marked k (now (dir .entry)) (now (dir .exit)) ⌝ }
 {
     let at = header::ENTRIES + 2 * k + 1;
-    let f = dir[at];
-    dir[at] = f - f % 2 + 1;
+    dir[at] = flags::marked(dir[at]);
 }

@@ -7,6 +7,7 @@ ghost use Rattle.figures.specs.Entry.{differ};
 ghost use Rattle.terms.specs.Choice.{allAtMost};
 ghost use Rattle.figures.specs.Sound.{flagWords};
 ghost use Rattle.entries.specs.Leaves.{OfEntries, FoundAt, Counted};
+use crate::flags;
 use crate::header;
 
 // The place of the first of the n entries from word a on that is for page, or n.
@@ -24,7 +25,7 @@ pub fn find(dir: &[u32], a: usize, n: usize, page: u32) -> usize
     n
 }
 
-// How many of the n entries from word a on have a flag: 1 is the reference bit, 2 the filter L.
+// How many of the n entries from word a on have a flag.
 pub fn count(dir: &[u32], a: usize, n: usize, flag: u32) -> u32
     requires { ⌜ (a + 2 * n ≤ length (now dir)) × (length (now dir) ≤ 4104) × (1 ≤ flag) × (flag ≤ 2) ⌝ }
     ensures { λ r. ⌜ Counted (now (dir .entry)) a n flag r ⌝ }
@@ -32,20 +33,20 @@ pub fn count(dir: &[u32], a: usize, n: usize, flag: u32) -> u32
     let mut sum = 0u32;
     let mut i = 0;
     while i < n {
-        sum += dir[a + 2 * i + 1] / flag % 2;
+        sum += flags::counts(dir[a + 2 * i + 1], flag);
         i += 1;
     }
     sum
 }
 
-// Whether the flags of the first n entries are at most 3.
+// Whether the first n entries have no flags but the known ones.
 pub fn flags_known(dir: &[u32], n: usize) -> bool
     requires { ⌜ (8 + 2 * n ≤ length (now dir)) × (length (now dir) ≤ 4104) ⌝ }
     ensures { λ r. ⌜ r ≡ allAtMost 3 (flagWords (take (2 * n) (drop 8 (now (dir .entry))))) ⌝ }
 {
     let mut i = 0;
     while i < n {
-        if 3 < dir[header::ENTRIES + 2 * i + 1] {
+        if flags::MOST < dir[header::ENTRIES + 2 * i + 1] {
             return false;
         }
         i += 1;

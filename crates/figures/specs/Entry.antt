@@ -31,6 +31,14 @@ cleared e = record { page = e .page; bit = false; filter = e .filter }
 abbrev pub madeLong : Entry → Entry
 madeLong e = record { page = e .page; bit = e .bit; filter = L }
 
+-- A demoted entry keeps what it has; its bit is clear.
+abbrev pub demoted : Entry → Entry
+demoted e = e
+
+abbrev pub isLong : Filter → Bool
+isLong S = false
+isLong L = true
+
 -- What an entry counts for: 1 where its bit is set, its filter is S, its filter is L.
 abbrev pub bits : Entry → ℕ
 bits e = if e .bit then 1 else 0

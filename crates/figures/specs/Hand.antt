@@ -3,7 +3,7 @@
 use mathlib.Core.Path.{_≡_}
 use mathlib.Core.List.{List}
 use Prim.Native.Nat.{ℕ, zero, suc, _+_}
-use Rattle.figures.specs.Entry.{Entry, bits}
+use Rattle.figures.specs.Entry.{Entry, demoted, bits}
 use Rattle.figures.specs.Directory.{Directory, Name, T1, T2, B1, B2, withList, toTail}
 
 pub record Hand : Type 0 where
@@ -62,10 +62,10 @@ turn i j f e es h = record {
   list = h .list;
 }
 
--- The last one: e, which stood before es in list i, is demoted to the tail of the history j as it is.
+-- The last one: e, which stood before es in list i, is demoted to the tail of the history j.
 abbrev pub demote : Name → Name → Entry → List Entry → Hand → Hand
 demote i j e es h = record {
-  dir = toTail j e (withList i es (h .dir));
+  dir = toTail j (demoted e) (withList i es (h .dir));
   nS = h .nS;
   nL = h .nL;
   moves = h .moves + 1;

@@ -5,6 +5,7 @@ ghost use Rattle.figures.specs.Car.{carSound};
 ghost use Rattle.figures.specs.Cart.{cartSound};
 ghost use Rattle.figures.specs.Sound.{sound};
 ghost use Rattle.soundness.specs.Orderly.{Orderly, sizesFit, Held, entriesSound};
+use entries::flags;
 use entries::header;
 use entries::lists;
 use entries::search;
@@ -44,7 +45,7 @@ fn car_sound(dir: &[u32]) -> bool
     if dir[header::Q] != 0 {
         return false;
     }
-    if search::count(dir, header::ENTRIES, all, 2) != 0 {
+    if search::count(dir, header::ENTRIES, all, flags::LONG) != 0 {
         return false;
     }
     n1 + k1 <= lists::wide(dir[header::SIZE])
@@ -62,13 +63,15 @@ fn cart_sound(dir: &[u32]) -> bool
     if 2 * dir[header::SIZE] < dir[header::Q] {
         return false;
     }
-    if search::count(dir, header::ENTRIES + 2 * n1, n2, 2) != dir[header::T2_LENGTH] {
+    if search::count(dir, header::ENTRIES + 2 * n1, n2, flags::LONG) != dir[header::T2_LENGTH] {
         return false;
     }
-    if search::count(dir, header::ENTRIES + 2 * (n1 + n2 + k1), k2, 2) != dir[header::B2_LENGTH] {
+    if search::count(dir, header::ENTRIES + 2 * (n1 + n2 + k1), k2, flags::LONG)
+        != dir[header::B2_LENGTH]
+    {
         return false;
     }
-    search::count(dir, header::ENTRIES + 2 * (n1 + n2), k1, 2) == 0
+    search::count(dir, header::ENTRIES + 2 * (n1 + n2), k1, flags::LONG) == 0
 }
 
 // What the entries say, once flags are known to be flags.
@@ -81,7 +84,7 @@ fn entries_sound(dir: &[u32]) -> bool
     if !search::pages_differ(dir, cached + remembered) {
         return false;
     }
-    if search::count(dir, header::ENTRIES + 2 * cached, remembered, 1) != 0 {
+    if search::count(dir, header::ENTRIES + 2 * cached, remembered, flags::BIT) != 0 {
         return false;
     }
     if dir[header::POLICY] == policies::CAR {

@@ -12,48 +12,9 @@ use borrow.Author.Needs.{needs}
 use Rattle.soundness.proofs.car_sound.Statement.{statement}
 use Rattle.soundness.proofs.car_sound.Tie as tie
 
-shared-slice-read-wide : tie.Need-shared-slice-read-wide
-shared-slice-read-wide c = search needs
-
-wide-requires : tie.Need-wide-requires
-wide-requires c κs = search needs
-
-shared-slice-read-wide-2 : tie.Need-shared-slice-read-wide-2
-shared-slice-read-wide-2 c = search needs
-
-wide-requires-2 : tie.Need-wide-requires-2
-wide-requires-2 c κs = search needs
-
-shared-slice-read-wide-3 : tie.Need-shared-slice-read-wide-3
-shared-slice-read-wide-3 c = search needs
-
-wide-requires-3 : tie.Need-wide-requires-3
-wide-requires-3 c κs = search needs
-
-add-all : tie.Need-add-all
-add-all c = search needs
-
-shared-slice-read-wide-4 : tie.Need-shared-slice-read-wide-4
-shared-slice-read-wide-4 c = search needs
-
-wide-requires-4 : tie.Need-wide-requires-4
-wide-requires-4 c κs = search needs
-
-add-all-2 : tie.Need-add-all-2
-add-all-2 c = search needs
-
-add-all-3 : tie.Need-add-all-3
-add-all-3 c = search needs
-
-shared-slice-read-if1 : tie.Need-shared-slice-read-if1
-shared-slice-read-if1 c = search needs
-
 returns : tie.Need-returns
 unfolding carSound
 returns c = fails _ (λ h. let said = simp reads at h in c .if1 .taken (said .0))
-
-count-requires : tie.Need-count-requires
-count-requires c κs = search needs
 
 abbrev start : tie.After-count → tie.Start
 start c = c .before .before .before .before .before .before .before .before .before .before .before .before
@@ -64,15 +25,6 @@ long-ones c = told (all-stand (start c .pre)) _ _ (c .count .ensures .1) (omega 
 returns-2 : tie.Need-returns-2
 unfolding carSound
 returns-2 c = fails _ (λ h. let said = simp reads at h in c .if2 .taken (long-ones (c .before) ∙ said .1 .0))
-
-add-result : tie.Need-add-result
-add-result c = search needs
-
-shared-slice-read-wide-5 : tie.Need-shared-slice-read-wide-5
-shared-slice-read-wide-5 c = search needs
-
-wide-requires-5 : tie.Need-wide-requires-5
-wide-requires-5 c κs = search needs
 
 returns-3 : tie.Need-returns-3
 unfolding carSound
@@ -89,22 +41,22 @@ pub car-sound-spec : {M : Type 1} → statement M
 car-sound-spec =
     tie.close
     (tie.spec
-    shared-slice-read-wide
-    wide-requires
-    shared-slice-read-wide-2
-    wide-requires-2
-    shared-slice-read-wide-3
-    wide-requires-3
-    add-all
-    shared-slice-read-wide-4
-    wide-requires-4
-    add-all-2
-    add-all-3
-    shared-slice-read-if1
+    (λ c. search needs)
+    (λ c κs. search needs)
+    (λ c. search needs)
+    (λ c κs. search needs)
+    (λ c. search needs)
+    (λ c κs. search needs)
+    (λ c. search needs)
+    (λ c. search needs)
+    (λ c κs. search needs)
+    (λ c. search needs)
+    (λ c. search needs)
+    (λ c. search needs)
     returns
-    count-requires
+    (λ c κs. search needs)
     returns-2
-    add-result
-    shared-slice-read-wide-5
-    wide-requires-5
+    (λ c. search needs)
+    (λ c. search needs)
+    (λ c κs. search needs)
     returns-3)

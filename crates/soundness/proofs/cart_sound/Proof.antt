@@ -13,54 +13,9 @@ use borrow.Author.Needs.{needs}
 use Rattle.soundness.proofs.cart_sound.Statement.{statement}
 use Rattle.soundness.proofs.cart_sound.Tie as tie
 
-shared-slice-read-wide : tie.Need-shared-slice-read-wide
-shared-slice-read-wide c = search needs
-
-wide-requires : tie.Need-wide-requires
-wide-requires c κs = search needs
-
-shared-slice-read-wide-2 : tie.Need-shared-slice-read-wide-2
-shared-slice-read-wide-2 c = search needs
-
-wide-requires-2 : tie.Need-wide-requires-2
-wide-requires-2 c κs = search needs
-
-shared-slice-read-wide-3 : tie.Need-shared-slice-read-wide-3
-shared-slice-read-wide-3 c = search needs
-
-wide-requires-3 : tie.Need-wide-requires-3
-wide-requires-3 c κs = search needs
-
-shared-slice-read-wide-4 : tie.Need-shared-slice-read-wide-4
-shared-slice-read-wide-4 c = search needs
-
-wide-requires-4 : tie.Need-wide-requires-4
-wide-requires-4 c κs = search needs
-
-shared-slice-read-if1 : tie.Need-shared-slice-read-if1
-shared-slice-read-if1 c = search needs
-
-mul-if1 : tie.Need-mul-if1
-mul-if1 c = search needs
-
-shared-slice-read-if1-2 : tie.Need-shared-slice-read-if1-2
-shared-slice-read-if1-2 c = search needs
-
 returns : tie.Need-returns
 unfolding cartSound
 returns c = fails _ (λ h. let said = simp reads at h in omega arith)
-
-mul-count : tie.Need-mul-count
-mul-count c = search needs
-
-add-count : tie.Need-add-count
-add-count c = search needs
-
-count-requires : tie.Need-count-requires
-count-requires c κs = search needs
-
-shared-slice-read-if2 : tie.Need-shared-slice-read-if2
-shared-slice-read-if2 c = search needs
 
 abbrev start : tie.After-count → tie.Start
 start c = c .before .before .before .before .before .before .before .before .before .before .before .before .before
@@ -77,24 +32,6 @@ returns-2 c =
     let t2 = long-in-t2 (c .before .before) in
     fails _ (λ h. let said = simp reads at h in c .if2 .taken (omega (arith, total-append short (d .t2) (d .b2))))
 
-add-count-2 : tie.Need-add-count-2
-add-count-2 c = search needs
-
-add-count-3 : tie.Need-add-count-3
-add-count-3 c = search needs
-
-mul-count-2 : tie.Need-mul-count-2
-mul-count-2 c = search needs
-
-add-count-4 : tie.Need-add-count-4
-add-count-4 c = search needs
-
-count-requires-2 : tie.Need-count-requires-2
-count-requires-2 c κs = search needs
-
-shared-slice-read-if3 : tie.Need-shared-slice-read-if3
-shared-slice-read-if3 c = search needs
-
 long-in-b2 : (c : tie.After-count2) → c .count2 .result ≡ total long (decode (start (c .before .before .before) .args .dir .now) .b2)
 long-in-b2 c = told (b2-stands (start (c .before .before .before) .pre)) _ _ (c .count2 .ensures .1) (omega arith) (omega arith)
 
@@ -106,18 +43,6 @@ returns-3 c =
     let all = filters (b2-stands (s .pre)) in
     let b2 = long-in-b2 (c .before .before) in
     fails _ (λ h. let said = simp reads at h in c .if3 .taken (omega (arith, total-append short (d .t2) (d .b2))))
-
-add-count-5 : tie.Need-add-count-5
-add-count-5 c = search needs
-
-mul-count-3 : tie.Need-mul-count-3
-mul-count-3 c = search needs
-
-add-count-6 : tie.Need-add-count-6
-add-count-6 c = search needs
-
-count-requires-3 : tie.Need-count-requires-3
-count-requires-3 c κs = search needs
 
 returns-4 : tie.Need-returns-4
 unfolding cartSound
@@ -139,32 +64,32 @@ pub cart-sound-spec : {M : Type 1} → statement M
 cart-sound-spec =
     tie.close
     (tie.spec
-    shared-slice-read-wide
-    wide-requires
-    shared-slice-read-wide-2
-    wide-requires-2
-    shared-slice-read-wide-3
-    wide-requires-3
-    shared-slice-read-wide-4
-    wide-requires-4
-    shared-slice-read-if1
-    mul-if1
-    shared-slice-read-if1-2
+    (λ c. search needs)
+    (λ c κs. search needs)
+    (λ c. search needs)
+    (λ c κs. search needs)
+    (λ c. search needs)
+    (λ c κs. search needs)
+    (λ c. search needs)
+    (λ c κs. search needs)
+    (λ c. search needs)
+    (λ c. search needs)
+    (λ c. search needs)
     returns
-    mul-count
-    add-count
-    count-requires
-    shared-slice-read-if2
+    (λ c. search needs)
+    (λ c. search needs)
+    (λ c κs. search needs)
+    (λ c. search needs)
     returns-2
-    add-count-2
-    add-count-3
-    mul-count-2
-    add-count-4
-    count-requires-2
-    shared-slice-read-if3
+    (λ c. search needs)
+    (λ c. search needs)
+    (λ c. search needs)
+    (λ c. search needs)
+    (λ c κs. search needs)
+    (λ c. search needs)
     returns-3
-    add-count-5
-    mul-count-3
-    add-count-6
-    count-requires-3
+    (λ c. search needs)
+    (λ c. search needs)
+    (λ c. search needs)
+    (λ c κs. search needs)
     returns-4)

@@ -13,42 +13,6 @@ use borrow.Author.Needs.{needs}
 use Rattle.soundness.proofs.entries_sound.Statement.{statement}
 use Rattle.soundness.proofs.entries_sound.Tie as tie
 
-shared-slice-read-wide : tie.Need-shared-slice-read-wide
-shared-slice-read-wide c = search needs
-
-wide-requires : tie.Need-wide-requires
-wide-requires c κs = search needs
-
-shared-slice-read-wide-2 : tie.Need-shared-slice-read-wide-2
-shared-slice-read-wide-2 c = search needs
-
-wide-requires-2 : tie.Need-wide-requires-2
-wide-requires-2 c κs = search needs
-
-add-cached : tie.Need-add-cached
-add-cached c = search needs
-
-shared-slice-read-wide-3 : tie.Need-shared-slice-read-wide-3
-shared-slice-read-wide-3 c = search needs
-
-wide-requires-3 : tie.Need-wide-requires-3
-wide-requires-3 c κs = search needs
-
-shared-slice-read-wide-4 : tie.Need-shared-slice-read-wide-4
-shared-slice-read-wide-4 c = search needs
-
-wide-requires-4 : tie.Need-wide-requires-4
-wide-requires-4 c κs = search needs
-
-add-remembered : tie.Need-add-remembered
-add-remembered c = search needs
-
-add-pages-differ : tie.Need-add-pages-differ
-add-pages-differ c = search needs
-
-pages-differ-requires : tie.Need-pages-differ-requires
-pages-differ-requires c κs = search needs
-
 abbrev start : tie.After-pages-differ → tie.Start
 start c = c .before .before .before .before .before .before .before .before .before .before
 
@@ -64,15 +28,6 @@ returns c = rw (sym (differs (c .before)) ∙ not-true _ (c .if1 .taken))
 all-differ : (c : tie.Else1) → differ (listed (d (c .before))) ≡ true
 all-differ c = sym (differs (c .before)) ∙ not-false _ (c .if1 .left)
 
-mul-count : tie.Need-mul-count
-mul-count c = search needs
-
-add-count : tie.Need-add-count
-add-count c = search needs
-
-count-requires : tie.Need-count-requires
-count-requires c κs = search needs
-
 bits-set : (c : tie.After-count) → (let d = d (c .before .before) in c .count .result ≡ total bits (d .b1 ++ d .b2))
 bits-set c = told (history-stands (start (c .before .before) .pre)) _ _ (c .count .ensures .1) (omega arith) (omega arith)
 
@@ -81,15 +36,6 @@ returns-2 c = rw (all-differ (c .before .before), ne-eqb _ 0 (λ none. c .if2 .t
 
 none-set : (c : tie.Else2) → (let d = d (c .before .before .before) in noneOf bits (d .b1 ++ d .b2) ≡ true)
 none-set c = eq-eqb _ 0 (sym (bits-set (c .before)) ∙ c .if2 .left)
-
-shared-slice-read-if3 : tie.Need-shared-slice-read-if3
-shared-slice-read-if3 c = search needs
-
-car-sound-requires : tie.Need-car-sound-requires
-car-sound-requires c κs = search needs
-
-cart-sound-requires : tie.Need-cart-sound-requires
-cart-sound-requires c κs = search needs
 
 returns-3 : tie.Need-returns-3
 returns-3 c =
@@ -107,25 +53,25 @@ pub entries-sound-spec : {M : Type 1} → statement M
 entries-sound-spec =
     tie.close
     (tie.spec
-    shared-slice-read-wide
-    wide-requires
-    shared-slice-read-wide-2
-    wide-requires-2
-    add-cached
-    shared-slice-read-wide-3
-    wide-requires-3
-    shared-slice-read-wide-4
-    wide-requires-4
-    add-remembered
-    add-pages-differ
-    pages-differ-requires
+    (λ c. search needs)
+    (λ c κs. search needs)
+    (λ c. search needs)
+    (λ c κs. search needs)
+    (λ c. search needs)
+    (λ c. search needs)
+    (λ c κs. search needs)
+    (λ c. search needs)
+    (λ c κs. search needs)
+    (λ c. search needs)
+    (λ c. search needs)
+    (λ c κs. search needs)
     returns
-    mul-count
-    add-count
-    count-requires
+    (λ c. search needs)
+    (λ c. search needs)
+    (λ c κs. search needs)
     returns-2
-    shared-slice-read-if3
-    car-sound-requires
-    cart-sound-requires
+    (λ c. search needs)
+    (λ c κs. search needs)
+    (λ c κs. search needs)
     returns-3
     returns-4)

@@ -5,11 +5,8 @@ use borrow.Author.Needs.{needs}
 use Rattle.entries.proofs.amounts.quotient.Statement.{statement}
 use Rattle.entries.proofs.amounts.quotient.Tie as tie
 
-div-result : tie.Need-div-result
-div-result c = search needs
-
 returns : tie.Need-returns
 returns c = (refl, div-le-self _ _)
 
 pub quotient-spec : {M : Type 1} → statement M
-quotient-spec = tie.close (tie.spec div-result returns)
+quotient-spec = tie.close (tie.spec (λ c. search needs) returns)

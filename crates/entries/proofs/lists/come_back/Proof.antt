@@ -8,15 +8,6 @@ use Rattle.entries.proofs.Changes.{page-to-tail}
 use Rattle.entries.proofs.lists.come_back.Statement.{statement}
 use Rattle.entries.proofs.lists.come_back.Tie as tie
 
-add-start-of : tie.Need-add-start-of
-add-start-of c = search needs
-
-start-of-requires : tie.Need-start-of-requires
-start-of-requires c κs = search needs
-
-start-of-requires-2 : tie.Need-start-of-requires-2
-start-of-requires-2 c κs = search needs
-
 mul-e : tie.Need-mul-e
 mul-e c =
     let a = c .before .before .before .before .before .args in
@@ -32,24 +23,6 @@ add-e-2 c =
     let a = c .before .before .before .before .before .args in
     omega (arith, start-of-next (a .dir .now) (a .b) (omega arith), starts-within (a .dir .now) (a .b + 1))
 
-add-n : tie.Need-add-n
-add-n c = search needs
-
-mul-n : tie.Need-mul-n
-mul-n c = search needs
-
-slice-read-n : tie.Need-slice-read-n
-slice-read-n c = search needs
-
-add-m : tie.Need-add-m
-add-m c = search needs
-
-mul-m : tie.Need-mul-m
-mul-m c = search needs
-
-slice-read-m : tie.Need-slice-read-m
-slice-read-m c = search needs
-
 put-in-requires : tie.Need-put-in-requires
 put-in-requires c κs =
     let a = c .before .before .before .before .before .before .before .before .args in
@@ -60,30 +33,6 @@ add-dir : tie.Need-add-dir
 add-dir c =
     let a = c .before .before .before .before .before .before .before .before .before .before .before .args in
     omega (arith, length-within (a .dir .now) (a .t) (omega arith))
-
-add-dir-2 : tie.Need-add-dir-2
-add-dir-2 c = search needs
-
-mul-dir : tie.Need-mul-dir
-mul-dir c = search needs
-
-slice-write-dir : tie.Need-slice-write-dir
-slice-write-dir c = search needs
-
-sub-dir : tie.Need-sub-dir
-sub-dir c = search needs
-
-add-dir-3 : tie.Need-add-dir-3
-add-dir-3 c = search needs
-
-mul-dir-2 : tie.Need-mul-dir-2
-mul-dir-2 c = search needs
-
-slice-write-dir-2 : tie.Need-slice-write-dir-2
-slice-write-dir-2 c = simp length-set (omega arith)
-
-same-length : tie.Need-same-length
-same-length c = search needs
 
 returns : tie.Need-returns
 returns c d e′ is here page new =
@@ -97,26 +46,26 @@ pub come-back-spec : {M : Type 1} → statement M
 come-back-spec =
     tie.close
     (tie.spec
-    add-start-of
-    start-of-requires
-    start-of-requires-2
+    (λ c. search needs)
+    (λ c κs. search needs)
+    (λ c κs. search needs)
     mul-e
     add-e
     add-e-2
-    add-n
-    mul-n
-    slice-read-n
-    add-m
-    mul-m
-    slice-read-m
+    (λ c. search needs)
+    (λ c. search needs)
+    (λ c. search needs)
+    (λ c. search needs)
+    (λ c. search needs)
+    (λ c. search needs)
     put-in-requires
     add-dir
-    add-dir-2
-    mul-dir
-    slice-write-dir
-    sub-dir
-    add-dir-3
-    mul-dir-2
-    slice-write-dir-2
-    same-length
+    (λ c. search needs)
+    (λ c. search needs)
+    (λ c. search needs)
+    (λ c. search needs)
+    (λ c. search needs)
+    (λ c. search needs)
+    (λ c. simp length-set (omega arith))
+    (λ c. search needs)
     returns)

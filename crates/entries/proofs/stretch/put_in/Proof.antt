@@ -10,39 +10,6 @@ use borrow.Author.Needs.{needs}
 use Rattle.entries.proofs.stretch.put_in.Statement.{statement}
 use Rattle.entries.proofs.stretch.put_in.Tie as tie
 
-mul-shift-in : tie.Need-mul-shift-in
-mul-shift-in c = search needs
-
-sub-shift-in : tie.Need-sub-shift-in
-sub-shift-in c = search needs
-
-part-shift-in-start : tie.Need-part-shift-in-start
-part-shift-in-start c = search needs
-
-part-shift-in-end : tie.Need-part-shift-in-end
-part-shift-in-end c = search needs
-
-shift-in-requires : tie.Need-shift-in-requires
-shift-in-requires c κs = search needs
-
-mul-shift-in-2 : tie.Need-mul-shift-in-2
-mul-shift-in-2 c = search needs
-
-sub-shift-in-2 : tie.Need-sub-shift-in-2
-sub-shift-in-2 c = search needs
-
-part-shift-in-start-2 : tie.Need-part-shift-in-start-2
-part-shift-in-start-2 c = search needs
-
-part-shift-in-end-2 : tie.Need-part-shift-in-end-2
-part-shift-in-end-2 c = search needs
-
-shift-in-requires-2 : tie.Need-shift-in-requires-2
-shift-in-requires-2 c κs = search needs
-
-same-length : tie.Need-same-length
-same-length c = search needs
-
 returns : tie.Need-returns
 returns c P M R h f is p q =
     let t = c .before .before .before .before .before .before in
@@ -57,15 +24,15 @@ pub put-in-spec : {M : Type 1} → statement M
 put-in-spec =
     tie.close
     (tie.spec
-    mul-shift-in
-    sub-shift-in
-    part-shift-in-start
-    part-shift-in-end
-    shift-in-requires
-    mul-shift-in-2
-    sub-shift-in-2
-    part-shift-in-start-2
-    part-shift-in-end-2
-    shift-in-requires-2
-    same-length
+    (λ c. search needs)
+    (λ c. search needs)
+    (λ c. search needs)
+    (λ c. search needs)
+    (λ c κs. search needs)
+    (λ c. search needs)
+    (λ c. search needs)
+    (λ c. search needs)
+    (λ c. search needs)
+    (λ c κs. search needs)
+    (λ c. search needs)
     returns)

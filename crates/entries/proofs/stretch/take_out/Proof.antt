@@ -8,15 +8,6 @@ use borrow.Author.Needs.{needs}
 use Rattle.entries.proofs.stretch.take_out.Statement.{statement}
 use Rattle.entries.proofs.stretch.take_out.Tie as tie
 
-mul-dir : tie.Need-mul-dir
-mul-dir c = search needs
-
-slice-write-dir : tie.Need-slice-write-dir
-slice-write-dir c = search needs
-
-to-end-requires : tie.Need-to-end-requires
-to-end-requires c κs = search needs
-
 same-length : tie.Need-same-length
 same-length c =
     let s = c .before .before .before .before .before .args in
@@ -28,4 +19,4 @@ returns c P M R h f is p q =
     c .before .before .to-end .ensures P M R 0 f (ap (λ (l : List ℕ). set l a 0) is ∙ set-at P h (f ∷ (M ++ R)) 0 a p) p q
 
 pub take-out-spec : {M : Type 1} → statement M
-take-out-spec = tie.close (tie.spec mul-dir slice-write-dir to-end-requires same-length returns)
+take-out-spec = tie.close (tie.spec (λ c. search needs) (λ c. search needs) (λ c κs. search needs) same-length returns)

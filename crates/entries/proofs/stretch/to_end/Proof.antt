@@ -8,30 +8,6 @@ use Rattle.entries.proofs.Turning.{carried}
 use Rattle.entries.proofs.stretch.to_end.Statement.{statement}
 use Rattle.entries.proofs.stretch.to_end.Tie as tie
 
-add-dir : tie.Need-add-dir
-add-dir c = search needs
-
-mul-dir : tie.Need-mul-dir
-mul-dir c = search needs
-
-slice-write-dir : tie.Need-slice-write-dir
-slice-write-dir c = search needs
-
-mul-turn : tie.Need-mul-turn
-mul-turn c = search needs
-
-sub-turn : tie.Need-sub-turn
-sub-turn c = search needs
-
-part-turn-start : tie.Need-part-turn-start
-part-turn-start c = search needs
-
-part-turn-end : tie.Need-part-turn-end
-part-turn-end c = search needs
-
-turn-requires : tie.Need-turn-requires
-turn-requires c κs = search needs
-
 same-length : tie.Need-same-length
 same-length c =
     let x = c .before .before .before .before .before .args in
@@ -45,13 +21,13 @@ pub to-end-spec : {M : Type 1} → statement M
 to-end-spec =
     tie.close
     (tie.spec
-    add-dir
-    mul-dir
-    slice-write-dir
-    mul-turn
-    sub-turn
-    part-turn-start
-    part-turn-end
-    turn-requires
+    (λ c. search needs)
+    (λ c. search needs)
+    (λ c. search needs)
+    (λ c. search needs)
+    (λ c. search needs)
+    (λ c. search needs)
+    (λ c. search needs)
+    (λ c κs. search needs)
     same-length
     returns)
