@@ -11,4 +11,5 @@ pub mod Searching
 pub mod Counting
 pub mod Bounds
 pub mod Heads
+pub mod TargetWords
 pub mod Rooms

@@ -3,3 +3,4 @@ pub mod Holds
 pub mod Flags
 pub mod Stretches
 pub mod Leaves
+pub mod Targets

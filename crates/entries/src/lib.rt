@@ -6,6 +6,7 @@ pub mod header;
 pub mod lists;
 pub mod search;
 pub mod stretch;
+pub mod targets;
 
 // The target p counts in parts of a page, of which a page has so many.
 pub const UNIT: u32 = 1;

@@ -1,0 +1,25 @@
+-- Where the step is p or more the difference on ℕ is 0, which the code writes out.
+use native.Mathlib.Omega.{arith}
+use Rattle.entries.proofs.TargetWords.{lowered-read}
+use borrow.Author.Needs.{needs}
+use Rattle.entries.proofs.targets.lowered.Statement.{statement}
+use Rattle.entries.proofs.targets.lowered.Tie as tie
+
+returns : tie.Need-returns
+returns c d is = omega (arith, lowered-read d is (c .before .before .before .before .before .before .args .dividend))
+
+returns-2 : tie.Need-returns-2
+returns-2 c d is = omega (arith, lowered-read d is (c .before .before .before .before .before .before .args .dividend))
+
+pub lowered-spec : {M : Type 1} → statement M
+lowered-spec =
+    tie.close
+    (tie.spec
+    (λ c. search needs)
+    (λ c. search needs)
+    (λ c κs. search needs)
+    (λ c κs. search needs)
+    (λ c. search needs)
+    (λ c. search needs)
+    returns
+    returns-2)
