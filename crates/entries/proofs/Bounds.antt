@@ -1,5 +1,5 @@
 -- Whether all words of a list are at most m, word by word; and the flags as words of a list.
--- Assumes nothing.
+-- For the loops of `flags_known` and `all_zero`.
 use mathlib.Core.Path.{_≡_, refl, ap}
 use mathlib.Core.Bool.{true, false}
 use mathlib.Core.List.{List, [], _∷_}

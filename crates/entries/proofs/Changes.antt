@@ -1,5 +1,5 @@
 -- What each leaf of lists.rt leaves in the words is the directory that its contract names.
--- Whichever the lists are: the cases over their numbers are in Laid. Assumes nothing.
+-- Whichever the lists are: the cases over their numbers are in Laid.
 use mathlib.Core.Path.{_≡_, refl, sym, ap, _∙_}
 use mathlib.Core.Bool.{Bool, true, false}
 use mathlib.Core.List.{List, [], _∷_, _++_, append-assoc}

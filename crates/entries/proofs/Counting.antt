@@ -1,4 +1,5 @@
 -- What a list counts for by a flag, entry by entry.
+-- For the loop of `count`.
 use mathlib.Core.Path.{_≡_}
 use mathlib.Core.List.{List}
 use Prim.Native.Nat.{ℕ, _+_, _*_}

@@ -1,28 +1,18 @@
--- The list whose head is looked at, the head, whose page and flags stand at the list's first two words, and its move to a tail.
--- Over any directory that the words hold. Assumes nothing.
+-- The head of a list: its page and flags stand at the list's first two words.
+-- Over any directory that the words hold.
 use mathlib.Core.Path.{_≡_}
-use mathlib.Core.Bool.{true, false}
 use mathlib.Core.List.{List, _∷_}
-use Prim.Native.Nat.{ℕ, _+_, _*_, _≤_, _<_, max}
+use Prim.Native.Nat.{ℕ, _+_, _≤_}
 use native.Mathlib.Nat.{add-zero}
 use native.Mathlib.Omega.{arith}
 use lib.ListN.{getD}
-use borrow.Author.Tests.{le-leb, lt-leb}
-use Rattle.terms.specs.Choice.{∣_∣}
 use Rattle.figures.specs.Entry.{Entry}
-use Rattle.figures.specs.Directory.{Directory, unit, listOf, t1AtTarget}
-use Rattle.figures.specs.Words.{flags, encode}
+use Rattle.figures.specs.Directory.{Directory, listOf}
+use Rattle.figures.specs.Words.{flags}
+use Rattle.entries.specs.Holds.{Holds}
 use Rattle.entries.specs.Stretches.{nameOf, startOf}
-use Rattle.entries.proofs.Laid.{header, length-of-list}
+use Rattle.entries.proofs.Laid.{length-of-list}
 use Rattle.entries.proofs.Reading.{Held, list-held, entry-at}
-
--- The test by which both policies choose between T1 and T2, on words 2 and 4.
-module _ (d : Directory) {w : List ℕ} (is : encode d ≡ w) where
-  pub at-target : max unit (getD w 2 0) ≤ unit * getD w 4 0 → t1AtTarget d ≡ true
-  at-target test = let h = header d w is in le-leb (max unit (d .p)) (unit * ∣ d .t1 ∣) (omega arith)
-
-  pub under-target : unit * getD w 4 0 < max unit (getD w 2 0) → t1AtTarget d ≡ false
-  under-target test = let h = header d w is in lt-leb (max unit (d .p)) (unit * ∣ d .t1 ∣) (omega arith)
 
 -- The head of list i, at words a and a + 1 of w.
 pub record HeadAt (i a : ℕ) (d : Directory) (w : List ℕ) : Type 0 where
@@ -32,7 +22,7 @@ pub record HeadAt (i a : ℕ) (d : Directory) (w : List ℕ) : Type 0 where
   pub page-word : getD w a 0 ≡ head .page
   pub flags-word : getD w (a + 1) 0 ≡ flags head
 
-pub head-at : (i : ℕ) (d : Directory) {w : List ℕ} → encode d ≡ w → i ≤ 3 → 1 ≤ getD w (4 + i) 0 → {a : ℕ} → a ≡ startOf i w → HeadAt i a d w
+pub head-at : (i : ℕ) (d : Directory) {w : List ℕ} → Holds d w → i ≤ 3 → 1 ≤ getD w (4 + i) 0 → {a : ℕ} → a ≡ startOf i w → HeadAt i a d w
 head-at i d {w} is known some {a} start =
     let there : Held w a (listOf (nameOf i) d) = rw start (list-held d w is i known) in
     let e = entry-at there 0 (omega (arith, length-of-list i d w is known)) in

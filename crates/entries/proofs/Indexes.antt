@@ -1,5 +1,5 @@
 -- Where a page stands in a list: below its length just where the list has the page, and what stands before and after it.
--- Assumes nothing.
+-- For `find`, which counts the entries before the page, and for what is then done to the entry that it names.
 use mathlib.Core.Path.{_≡_, refl, ap}
 use mathlib.Core.Bool.{Bool, true, false, _||_, true≢false, false≢true}
 use mathlib.Core.List.{List, [], _∷_, _++_}

@@ -1,5 +1,5 @@
 -- The words of a directory as three parts: the eight in front, those of all listed entries, the zeros.
--- What a change of list i, 0 to 3, does to each part, whichever list it is. Assumes nothing.
+-- What a change of list i, 0 to 3, does to each part, whichever list it is.
 use mathlib.Core.Path.{_≡_, refl, sym, ap, _∙_, subst}
 use mathlib.Core.List.{List, [], _∷_, _++_, append-assoc, append-nil}
 use Prim.Native.Nat.{ℕ, zero, suc, _+_, _-_, _*_, _≤_}
@@ -33,12 +33,15 @@ pub record Header (d : Directory) (w : List ℕ) : Type 0 where
   pub b1 : getD w 6 0 ≡ ∣ d .b1 ∣
   pub b2 : getD w 7 0 ≡ ∣ d .b2 ∣
 
-pub header : (d : Directory) (w : List ℕ) → encode d ≡ w → Header d w
+pub header : (d : Directory) (w : List ℕ) → Holds d w → Header d w
 header d w is = subst (Header d) is (record { policy = refl; c = refl; p = refl; q = refl; t1 = refl; t2 = refl; b1 = refl; b2 = refl })
 
 -- The words with another target.
 pub with-p : (d : Directory) {w : List ℕ} {p p′ : ℕ} → Holds d w → p ≡ p′ → Holds (withP p′ d) (set w 2 p)
 with-p d {w} {p} is same = ap (λ (n : ℕ). encode (withP n d)) (sym same) ∙ ap (λ (l : List ℕ). set l 2 p) is
+
+pub length-with-p : (w : List ℕ) (p i : ℕ) → getD (set w 2 p) (4 + i) 0 ≡ getD w (4 + i) 0
+length-with-p w p i = getD-set-other w 2 (4 + i) p 0 (λ e. omega arith)
 
 pub with-q : (d : Directory) {w : List ℕ} {q q′ : ℕ} → Holds d w → q ≡ q′ → Holds (withQ q′ d) (set w 3 q)
 with-q d {w} {q} is same = ap (λ (n : ℕ). encode (withQ n d)) (sym same) ∙ ap (λ (l : List ℕ). set l 3 q) is
@@ -64,7 +67,7 @@ starts (suc (suc zero)) d = refl
 starts (suc (suc (suc zero))) d = refl
 starts (suc (suc (suc (suc i)))) d = refl
 
-pub start-of-place : (i : ℕ) (d : Directory) (w : List ℕ) → encode d ≡ w → startOf i w ≡ 8 + 2 * place i d
+pub start-of-place : (i : ℕ) (d : Directory) (w : List ℕ) → Holds d w → startOf i w ≡ 8 + 2 * place i d
 start-of-place i d w is = ap (λ (l : List ℕ). startOf i l) (sym is) ∙ starts i d
 
 pub places-in-order : (i j : ℕ) (d : Directory) → i ≤ j → place i d ≤ place j d
@@ -124,7 +127,7 @@ place-next (suc (suc zero)) d h = omega arith
 place-next (suc (suc (suc zero))) d h = omega arith
 place-next (suc (suc (suc (suc i)))) d h = absurd (omega arith)
 
-pub length-of-list : (i : ℕ) (d : Directory) (w : List ℕ) → encode d ≡ w → i ≤ 3 → getD w (4 + i) 0 ≡ ∣ listOf (nameOf i) d ∣
+pub length-of-list : (i : ℕ) (d : Directory) (w : List ℕ) → Holds d w → i ≤ 3 → getD w (4 + i) 0 ≡ ∣ listOf (nameOf i) d ∣
 length-of-list i d w is h =
     ap (λ (l : List ℕ). getD l (4 + i) 0) (sym is)
     ∙ List·getD-append (heads d) (drop 8 (encode d)) 0 (4 + i) (omega arith)

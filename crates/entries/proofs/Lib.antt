@@ -13,3 +13,4 @@ pub mod Bounds
 pub mod Heads
 pub mod TargetWords
 pub mod Rooms
+pub mod ComingBack

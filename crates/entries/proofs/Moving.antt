@@ -1,5 +1,5 @@
 -- What the leaves that turn a stretch, put an entry in or take one out do to the directory that the words hold.
--- An entry stands behind a number of others among all listed entries, and the leaf moves it from there. Assumes nothing.
+-- An entry stands behind a number of others among all listed entries, and the leaf moves it from there.
 use mathlib.Core.Path.{_≡_, sym, ap, _∙_}
 use mathlib.Core.List.{List, [], _∷_, _++_, append-assoc}
 use Prim.Native.Nat.{ℕ, zero, suc, _+_, _-_, _*_, _≤_}
@@ -9,7 +9,7 @@ use lib.Seq.{take-add, drop-drop, length-take-le, getD-at, set-at, set-append-le
 use Rattle.terms.specs.Choice.{∣_∣}
 use Rattle.figures.specs.Entry.{Entry}
 use Rattle.figures.specs.Directory.{Directory, listed}
-use Rattle.figures.specs.Words.{flags, words, zeros, encode}
+use Rattle.figures.specs.Words.{flags, words, zeros}
 use Rattle.laws.proofs.Encoding.{words-append, length-words}
 use Rattle.entries.specs.Holds.{Holds}
 use Rattle.entries.specs.Leaves.{ToEnd, PutIn, TakenOut}
@@ -29,7 +29,7 @@ fewer-zeros d d′ h i k =
     zeros-after d ∙ two-zeros (4 * d .c - 2 * ∣ listed d ∣) (omega arith) ∙ rw (e, ← zeros-after d′)
 
 -- The words, where the listed entries are in three parts and an entry goes over the middle one.
-module _ (d d′ : Directory) (A B C : List Entry) (e e′ : Entry) (w L : List ℕ) (s z v : ℕ) (is : encode d ≡ w)
+module _ (d d′ : Directory) (A B C : List Entry) (e e′ : Entry) (w L : List ℕ) (s z v : ℕ) (is : Holds d w)
     (size : d′ .c ≡ d .c) (start : s ≡ 8 + 2 * ∣ A ∣) (end : z ≡ s + 2 * ∣ B ∣ + 2) (x : ℕ) (page : e′ .page ≡ x) (new : v ≡ flags e′) where
   pub moved-on : listed d ≡ A ++ (e ∷ (B ++ C)) → listed d′ ≡ A ++ (B ++ (e′ ∷ C)) → e .page ≡ x → ToEnd s z v w L
       → L ≡ heads d ++ (words (listed d′) ++ zeros d′)
@@ -50,7 +50,7 @@ module _ (d d′ : Directory) (A B C : List Entry) (e e′ : Entry) (w L : List 
       ∙ rw (to, ← zs, new, ← page) (simp (words-append, append-assoc))
 
 -- The words, where an entry is put in among the listed ones, or one of them is dropped.
-module _ (d d′ : Directory) (A B : List Entry) (e : Entry) (w L : List ℕ) (s z : ℕ) (is : encode d ≡ w)
+module _ (d d′ : Directory) (A B : List Entry) (e : Entry) (w L : List ℕ) (s z : ℕ) (is : Holds d w)
     (size : d′ .c ≡ d .c) (start : s ≡ 8 + 2 * ∣ A ∣) (end : z ≡ s + 2 * ∣ B ∣ + 2) where
   pub added : listed d ≡ A ++ B → listed d′ ≡ A ++ (e ∷ B) → z ≤ length w → PutIn s z (e .page) (flags e) w L
       → L ≡ heads d ++ (words (listed d′) ++ zeros d′)
@@ -77,7 +77,7 @@ module _ (d d′ : Directory) (A B : List Entry) (e : Entry) (w L : List ℕ) (s
       ∙ rw (to, zs) (simp (words-append, append-assoc))
 
 -- The words, where an entry gets other flags and stays in its place.
-module _ (d d′ : Directory) (A C : List Entry) (e e′ : Entry) (w : List ℕ) (at v : ℕ) (is : encode d ≡ w)
+module _ (d d′ : Directory) (A C : List Entry) (e e′ : Entry) (w : List ℕ) (at v : ℕ) (is : Holds d w)
     (here : at ≡ 9 + 2 * ∣ A ∣) (from : listed d ≡ A ++ (e ∷ C)) where
   front : length (heads d ++ (words A ++ (e .page ∷ []))) ≡ at
   front = omega (arith, length-append (words A) (e .page ∷ []), length-words A)

@@ -1,5 +1,5 @@
 -- Words that hold a list of entries, and what is read there: the page and the flags of an entry, the entries after it.
--- Assumes nothing.
+-- A list is held where the words are those before it, its own, and those after it.
 use mathlib.Core.Path.{_≡_, refl, sym, ap, _∙_}
 use mathlib.Core.List.{List, [], _∷_, _++_, append-assoc, append-nil}
 use Prim.Native.Nat.{ℕ, zero, suc, _+_, _*_, _≤_, _<_}
@@ -10,7 +10,8 @@ use lib.Seq.{length-take-le, drop-cons, getD-at, getD-append-add}
 use Rattle.terms.specs.Choice.{∣_∣}
 use Rattle.figures.specs.Entry.{Entry, newShort}
 use Rattle.figures.specs.Directory.{Directory, listOf, listed}
-use Rattle.figures.specs.Words.{flags, words, zeros, encode}
+use Rattle.figures.specs.Words.{flags, words, zeros}
+use Rattle.entries.specs.Holds.{Holds}
 use Rattle.entries.specs.Stretches.{nameOf, startOf}
 use Rattle.entries.specs.Leaves.{OfEntries}
 use Rattle.laws.proofs.Encoding.{length-words, words-append}
@@ -62,7 +63,7 @@ pub told : {Of : List Entry → Type 0} {w : List ℕ} {a a′ n : ℕ} {l : Lis
 told {l = l} h says at many = says (h .before) (h .after) l (h .parts) (h .starts ∙ at) many
 
 -- The words of a directory hold any stretch of its listed entries,
-module _ (d : Directory) (w : List ℕ) (is : encode d ≡ w) where
+module _ (d : Directory) (w : List ℕ) (is : Holds d w) where
   pub stretch-held : (A l B : List Entry) → listed d ≡ A ++ (l ++ B) → (a : ℕ) → 8 + 2 * ∣ A ∣ ≡ a → Held w a l
   stretch-held A l B cut a at = record {
     before = heads d ++ words A;

@@ -1,5 +1,5 @@
 -- A list searched entry by entry: for a page, and for a page that stands in it twice.
--- Assumes nothing.
+-- For the loops of `find` and `pages_differ`, and what a search of list i says of the directory.
 use mathlib.Core.Path.{_≡_, sym, ap, _∙_}
 use mathlib.Core.Bool.{true, false}
 use mathlib.Core.List.{List}
@@ -7,11 +7,10 @@ use Prim.Native.Nat.{ℕ, suc, _+_, _-_, _*_, _≤_, _<_}
 use native.Mathlib.Omega.{arith}
 use lib.ListN.{length, drop, getD, length-drop}
 use borrow.Author.Tests.{eq-eqb, ne-eqb}
-use Rattle.terms.specs.Choice.{∣_∣}
 use Rattle.figures.specs.Entry.{Entry, has, differ}
 use Rattle.figures.specs.Directory.{Directory, listOf}
-use Rattle.figures.specs.Words.{encode}
-use Rattle.entries.specs.Leaves.{OfEntries}
+use Rattle.entries.specs.Holds.{Holds}
+use Rattle.entries.specs.Leaves.{OfEntries, FoundIn}
 use Rattle.entries.specs.Stretches.{nameOf, startOf, index}
 use Rattle.entries.proofs.Laid.{length-of-list}
 use Rattle.entries.proofs.Reading.{Held, held-from, EntryAt, entry-at, told, list-held}
@@ -50,16 +49,15 @@ module _ {w : List ℕ} {a n i k : ℕ} {l : List Entry} (h : Held w a l) (many 
   differ-later is = rw (s .front, index-lacks (s .here .page) later (omega (arith, place, length-later)))
 
 -- What `find` says where list i of a directory is searched.
-module _ (d : Directory) (w : List ℕ) (is : encode d ≡ w) (i : ℕ) (named : i ≤ 3) (a n x k : ℕ)
+module _ (d : Directory) (w : List ℕ) (is : Holds d w) (i : ℕ) (named : i ≤ 3) (a n x k : ℕ)
     (found : Found w a n x k) (start : a ≡ startOf i w) (size : n ≡ getD w (4 + i) 0) where
-  length-searched : ∣ listOf (nameOf i) d ∣ ≡ n
-  length-searched = sym (length-of-list i d w is named) ∙ sym size
-
   pub found-index : k ≡ index x (listOf (nameOf i) d)
-  found-index = told (list-held d w is i named) found (sym start) length-searched
+  found-index = told (list-held d w is i named) found (sym start) (sym (length-of-list i d w is named) ∙ sym size)
 
-  pub found-has : k < n → has x (listOf (nameOf i) d) ≡ true
-  found-has h = index-has x (listOf (nameOf i) d) (omega (arith, found-index, length-searched))
+-- What lists::find says of list i.
+module _ (d : Directory) (w : List ℕ) (is : Holds d w) (i : ℕ) (named : i ≤ 3) (x k : ℕ) (found : FoundIn i x w k) where
+  pub found-has : k < getD w (4 + i) 0 → has x (listOf (nameOf i) d) ≡ true
+  found-has h = index-has x (listOf (nameOf i) d) (omega (arith, found .1 d is, length-of-list i d w is named))
 
-  pub found-lacks : n ≤ k → has x (listOf (nameOf i) d) ≡ false
-  found-lacks h = index-lacks x (listOf (nameOf i) d) (omega (arith, found-index, length-searched))
+  pub found-lacks : getD w (4 + i) 0 ≤ k → has x (listOf (nameOf i) d) ≡ false
+  found-lacks h = index-lacks x (listOf (nameOf i) d) (omega (arith, found .1 d is, length-of-list i d w is named))

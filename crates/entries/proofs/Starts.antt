@@ -1,5 +1,5 @@
 -- The words at which the lists start: their order, the distance to the next, and that all lie within the words in use.
--- Over the list's number, by cases. Assumes nothing.
+-- Over the list's number, by cases.
 use mathlib.Core.Path.{_≡_, refl}
 use mathlib.Core.List.{List}
 use Prim.Native.Nat.{ℕ, zero, suc, _+_, _-_, _*_, _≤_}

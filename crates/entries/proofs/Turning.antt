@@ -1,5 +1,5 @@
 -- The lists that a stretch of words goes through while it is turned, and what the turned stretch is in its parts.
--- Assumes nothing.
+-- For the loops of `turn` and `shift_in`, and for the leaves, which name what stands before and after the stretch.
 use mathlib.Core.Path.{_≡_, refl, sym, ap, _∙_}
 use mathlib.Core.List.{List, [], _∷_, _++_, append-assoc, append-nil}
 use Prim.Native.Nat.{ℕ, suc, _+_, _-_, _<_}

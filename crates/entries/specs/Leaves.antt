@@ -3,6 +3,7 @@
 use mathlib.Core.Path.{_≡_}
 use mathlib.Core.List.{List, _∷_, _++_}
 use Prim.Native.Nat.{ℕ, _+_, _*_, _≤_}
+use lib.ListN.{getD}
 use Rattle.terms.specs.Choice.{∣_∣}
 use Rattle.figures.specs.Entry.{Entry, cleared, without, dropHead, total}
 use Rattle.figures.specs.Directory.{Directory, T1, T2, listOf, withList, toTail, hit, cached, remembered}
@@ -65,6 +66,10 @@ OfEntries w a n P = (before after : List ℕ) (l : List Entry) → w ≡ before 
 -- Page x is found at k, where n is nowhere.
 abbrev pub FoundAt : List ℕ → ℕ → ℕ → ℕ → ℕ → Type 0
 FoundAt w a n x k = (k ≤ n) × OfEntries w a n (λ l. k ≡ index x l)
+
+-- Page x is found at k of list i, where the list's length is nowhere.
+abbrev pub FoundIn : ℕ → ℕ → List ℕ → ℕ → Type 0
+FoundIn i x w k = (k ≤ getD w (4 + i) 0) × ((d : Directory) → Holds d w → k ≡ index x (listOf (nameOf i) d))
 
 -- So many entries have the flag.
 abbrev pub Counted : List ℕ → ℕ → ℕ → ℕ → ℕ → Type 0

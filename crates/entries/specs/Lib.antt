@@ -4,3 +4,4 @@ pub mod Flags
 pub mod Stretches
 pub mod Leaves
 pub mod Targets
+pub mod Returning

@@ -4,6 +4,7 @@ pub mod amounts;
 pub mod flags;
 pub mod header;
 pub mod lists;
+pub mod returning;
 pub mod search;
 pub mod stretch;
 pub mod targets;

@@ -7,9 +7,10 @@ ghost use Rattle.figures.specs.Directory.{placeNew};
 ghost use Rattle.engine.specs.Shown.{Makes};
 ghost use Rattle.entries.specs.Holds.{Holds};
 ghost use Rattle.entries.specs.Stretches.{Room, startOf};
-ghost use Rattle.entries.specs.Leaves.{HeadMoved, BorderMoved, CameBack, HeadDropped, Marked};
+ghost use Rattle.entries.specs.Leaves.{FoundIn, HeadMoved, BorderMoved, CameBack, HeadDropped, Marked};
 use crate::flags;
 use crate::header;
+use crate::search;
 use crate::stretch;
 
 pub const T1: usize = 0;
@@ -45,6 +46,17 @@ pub fn start_of(dir: &[u32], i: usize) -> usize
         B2 => header::ENTRIES + 2 * (n1 + n2 + k1),
         _ => header::ENTRIES + 2 * (n1 + n2 + (k1 + k2)),
     }
+}
+
+// The place of page in list i, or the list's length.
+pub fn find(dir: &[u32], i: usize, page: u32) -> usize
+    requires { ⌜ Room (now dir) ⌝ }
+    requires { ⌜ i ≤ 3 ⌝ }
+    ensures { λ r. ⌜ FoundIn i page (now (dir .entry)) r ⌝ }
+{
+    let a = start_of(dir, i);
+    let n = wide(dir[header::T1_LENGTH + i]);
+    search::find(dir, a, n, page)
 }
 
 // The head of list i, with new flags, becomes the tail of list j, which is the same list or a later one.

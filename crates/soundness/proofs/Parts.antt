@@ -1,5 +1,5 @@
 -- Words that hold a directory, cut around any list of it: where the list stands, and how many entries it has.
--- Assumes nothing.
+-- What a search from a word on tells, it tells of the list that stands there.
 use mathlib.Core.Path.{_≡_, sym, _∙_}
 use mathlib.Core.List.{List, [], _++_, append-assoc, append-nil}
 use Prim.Native.Nat.{ℕ, _+_, _*_, _≤_}

@@ -1,5 +1,5 @@
 -- Soundness by the four answers that is_sound asks for in turn: the sizes, the flags, the zeros, the entries.
--- Assumes nothing.
+-- Each is needed, and together they are all of it.
 use mathlib.Core.Path.{_≡_}
 use mathlib.Core.Bool.{Bool, true}
 use mathlib.Core.List.{List}

@@ -1,5 +1,5 @@
 -- A test's value from what its truth would mean.
--- Assumes nothing.
+-- For the functions that answer false early.
 use mathlib.Core.Path.{_≡_, refl, sym, _∙_}
 use mathlib.Core.Bool.{Bool, true, false, true≢false}
 use mathlib.Core.List.{[], _∷_}
