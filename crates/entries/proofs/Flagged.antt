@@ -43,8 +43,8 @@ module _ (e : Entry) (f : ℕ) (is : f ≡ flags e) where
   pub flags-cleared : f - f % 2 ≡ flags (cleared e)
   flags-cleared = omega (arith, bits-at-most-one e)
 
-  pub flags-marked : f - f % 2 + 1 ≡ flags (marked e)
+  pub flags-marked : f + (1 - f % 2) ≡ flags (marked e)
   flags-marked = omega (arith, bits-at-most-one e)
 
-  pub flags-made-long : f - f / 2 % 2 * 2 + 2 ≡ flags (madeLong e)
+  pub flags-made-long : f + 2 * (1 - f / 2 % 2) ≡ flags (madeLong e)
   flags-made-long = omega (arith, bits-at-most-one e, long-at-most e)

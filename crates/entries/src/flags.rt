@@ -39,7 +39,7 @@ pub fn long(f: u32) -> bool
 pub fn marked(f: u32) -> u32
     ensures { λ r. ⌜ Becomes marked f r ⌝ }
 {
-    f - f % 2 + BIT
+    f + (BIT - f % 2)
 }
 
 pub fn cleared(f: u32) -> u32
@@ -51,7 +51,7 @@ pub fn cleared(f: u32) -> u32
 pub fn made_long(f: u32) -> u32
     ensures { λ r. ⌜ Becomes madeLong f r ⌝ }
 {
-    f - f / LONG % 2 * LONG + LONG
+    f + LONG * (1 - f / LONG % 2)
 }
 
 pub fn demoted(f: u32) -> u32
