@@ -8,7 +8,7 @@ use native.Mathlib.Omega.{arith}
 use Rattle.figures.specs.Entry.{Entry, has}
 use Rattle.figures.specs.Directory.{Directory, Name}
 use Rattle.figures.specs.Hand.{Hand}
-use Rattle.figures.specs.Request.{Policy}
+use Rattle.figures.specs.Policy.{Policy}
 use Rattle.engine.specs.Shown.{PlacedAs}
 use Rattle.engine.proofs.Placed.{placed-B1, placed-B2}
 use Rattle.entries.specs.Holds.{Holds}

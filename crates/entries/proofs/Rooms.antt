@@ -1,6 +1,7 @@
 -- What room the words of a directory have for what the leaves do: where it is full, after the evict part, after trim.
 -- Over the policy that a directory names.
 use mathlib.Core.Path.{_≡_, refl, sym, _∙_, subst}
+use mathlib.Core.Bool.{true}
 use mathlib.Core.List.{List}
 use Prim.Native.Nat.{ℕ, _+_, _*_, _≤_}
 use native.Mathlib.Omega.{arith}
