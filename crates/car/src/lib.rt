@@ -1,82 +1,80 @@
 // CAR, Figure 2, in lent words: evict by choosing a clock and looking at its head, then trim and place.
 // The choice leads to a look, and a look at a set bit back to the choice; the set reference bits fall.
-ghost use mathlib.Core.Path.{_≡_};
-ghost use Prim.Native.Nat.{_≤_};
-ghost use lib.ListN.{length};
-ghost use Rattle.terms.specs.Choice.{if_then_else_};
-ghost use Rattle.figures.specs.Directory.{t1AtTarget};
-ghost use Rattle.figures.specs.Words.{decode, nB1, nB2};
+ghost use Prim.Native.Nat.{_+_, _≤_};
+ghost use Rattle.terms.specs.Policies.{car};
+ghost use Rattle.figures.specs.Words.{decode, size, nT1, nB1};
+ghost use Rattle.figures.specs.Hand.{Hand};
 ghost use Rattle.figures.specs.Car as Car;
 ghost use Rattle.figures.specs.Policy.{carPolicy};
 ghost use Rattle.figures.specs.Request.{missed};
-ghost use Rattle.entries.specs.Stretches.{Room};
-ghost use Rattle.entries.specs.Leaves.{Makes};
-ghost use Rattle.entries.specs.Answers.{Tells};
-ghost use Rattle.car.specs.Turning.{Full, Turning, EndsFrom, EvictedAs, Opened, PlacedAs};
-ghost use Rattle.car.specs.Turning.{raisedTarget, loweredTarget};
+ghost use Rattle.engine.specs.Shown.{Makes, EvictedAs, PlacedAs, Tells};
+ghost use Rattle.engine.specs.Choosing.{Turning, Chosen, EndsFrom};
+ghost use Rattle.entries.specs.Holds.{Holds};
+ghost use Rattle.entries.specs.Stretches.{Room, nameOf};
+ghost use Rattle.entries.specs.Returning.{Full, Freed};
+use engine::kinds;
+use entries::flags;
 use entries::header;
 use entries::lists;
-use entries::numbers;
-use entries::search;
-
-// The evicted page, the list that it came from, and the hand moves that it took.
-pub struct Evicted {
-    pub page: u32,
-    pub list: u32,
-    pub moves: u32,
-}
+use entries::returning;
+use entries::targets;
 
 // Line 24, the choice of a clock.
-fn choose(dir: &mut [u32], moves: u32) -> Evicted
+fn choose(dir: &mut [u32], hand: engine::Hand) -> engine::Evicted
     requires { ⌜ Room (now dir) ⌝ }
-    requires { ⌜ Turning (now dir) moves ⌝ }
-    ensures { λ r. ⌜ EndsFrom moves (now (dir .entry)) (r .page) (r .list) (r .moves) (now (dir .exit)) ⌝ }
+    requires { ⌜ Turning Holds (now dir) hand ⌝ }
+    ensures { λ r. ⌜ EndsFrom Holds (now (dir .entry)) hand r (now (dir .exit)) ⌝ }
 {
-    let p = numbers::greatest(entries::UNIT, dir[header::P]);
-    let n = entries::UNIT * dir[header::T1_LENGTH];
-    if p <= n {
-        look(dir, lists::T1, moves)
+    if targets::t1_at_target(dir) {
+        look(dir, lists::T1, hand)
     } else {
-        look(dir, lists::T2, moves)
+        look(dir, lists::T2, hand)
     }
 }
 
 // Lines 25 to 30 and 32 to 37, the look at the head of clock i.
-fn look(dir: &mut [u32], i: usize, moves: u32) -> Evicted
+fn look(dir: &mut [u32], i: usize, hand: engine::Hand) -> engine::Evicted
     requires { ⌜ Room (now dir) ⌝ }
-    requires { ⌜ Turning (now dir) moves ⌝ }
-    requires { ⌜ i ≡ (if t1AtTarget (decode (now dir)) then 0 else 1) ⌝ }
-    ensures { λ r. ⌜ EndsFrom moves (now (dir .entry)) (r .page) (r .list) (r .moves) (now (dir .exit)) ⌝ }
+    requires { ⌜ Turning Holds (now dir) hand ⌝ }
+    requires { ⌜ (i ≤ 1) × Chosen Holds (nameOf i) (now dir) ⌝ }
+    ensures { λ r. ⌜ EndsFrom Holds (now (dir .entry)) hand r (now (dir .exit)) ⌝ }
 {
     let at = lists::start_of(dir, i);
     let page = dir[at];
     let f = dir[at + 1];
-    if f % 2 == 1 {
-        lists::move_head(dir, i, lists::T2, f - 1);
-        choose(dir, moves + 1)
+    let moves = hand.moves + 1;
+    if flags::bit(f) {
+        lists::move_head(dir, i, lists::T2, flags::cleared(f));
+        let cleared = hand.cleared + 1;
+        choose(dir, engine::Hand { moves, cleared })
     } else {
-        lists::move_head(dir, i, i + 2, f);
-        Evicted {
-            page,
-            list: i as u32 + 1,
-            moves: moves + 1,
-        }
+        lists::move_head(dir, i, i + 2, flags::demoted(f));
+        let cleared = hand.cleared;
+        let list = i as u32 + 1;
+        let hand = engine::Hand { moves, cleared };
+        engine::Evicted { page, list, hand }
     }
 }
 
 // Lines 22 to 39.
-pub fn evict(dir: &mut [u32]) -> Evicted
-    requires { ⌜ Full (now dir) ⌝ }
-    ensures { λ r. ⌜ EvictedAs (Car.evict (decode (now (dir .entry)))) (r .page) (r .list) (r .moves) (now (dir .exit)) ⌝ }
+pub fn evict(dir: &mut [u32]) -> engine::Evicted
+    requires { ⌜ Full car (now dir) ⌝ }
+    ensures { λ r. ⌜ EvictedAs Holds (Car.evict (decode (now (dir .entry)))) r (now (dir .exit)) ⌝ }
 {
-    choose(dir, 0)
+    choose(
+        dir,
+        engine::Hand {
+            moves: 0,
+            cleared: 0,
+        },
+    )
 }
 
 // Lines 6 to 10, for a page in neither history.
 fn trim(dir: &mut [u32])
-    requires { ⌜ Room (now dir) ⌝ }
-    requires { ⌜ Opened (now dir) ⌝ }
-    ensures { λ _. ⌜ Makes Car.trim (now (dir .entry)) (now (dir .exit)) ⌝ }
+    requires { ⌜ Freed (now dir) ⌝ }
+    requires { ⌜ nT1 (now dir) + nB1 (now dir) ≤ size (now dir) ⌝ }
+    ensures { λ _. ⌜ Makes Holds Car.trim (now (dir .entry)) (now (dir .exit)) ⌝ }
 {
     let c = dir[header::SIZE];
     let n1 = dir[header::T1_LENGTH];
@@ -90,77 +88,38 @@ fn trim(dir: &mut [u32])
     }
 }
 
-// Line 15: the target that a page found in B1 asks for.
-fn raised_target(dir: &[u32]) -> u32
-    requires { ⌜ Opened (now dir) ⌝ }
-    requires { ⌜ (8 ≤ length (now dir)) × (1 ≤ nB1 (now dir)) ⌝ }
-    ensures { λ r. ⌜ r ≡ raisedTarget (now (dir .entry)) ⌝ }
-{
-    let step = numbers::quotient(
-        entries::UNIT * dir[header::B2_LENGTH],
-        dir[header::B1_LENGTH],
-    );
-    numbers::least(
-        dir[header::P] + numbers::greatest(entries::UNIT, step),
-        entries::UNIT * dir[header::SIZE],
-    )
-}
-
-// Line 18: the target that a page found in B2 asks for.
-fn lowered_target(dir: &[u32]) -> u32
-    requires { ⌜ Opened (now dir) ⌝ }
-    requires { ⌜ (8 ≤ length (now dir)) × (1 ≤ nB2 (now dir)) ⌝ }
-    ensures { λ r. ⌜ r ≡ loweredTarget (now (dir .entry)) ⌝ }
-{
-    let step = numbers::quotient(
-        entries::UNIT * dir[header::B1_LENGTH],
-        dir[header::B2_LENGTH],
-    );
-    let step = numbers::greatest(entries::UNIT, step);
-    let p = dir[header::P];
-    if step < p { p - step } else { 0 }
-}
-
 // Lines 6 to 20: the page from B1, from B2, or new; the answer's kind.
 fn place(dir: &mut [u32], page: u32) -> u32
-    requires { ⌜ Room (now dir) ⌝ }
-    requires { ⌜ Opened (now dir) ⌝ }
-    ensures { λ r. ⌜ PlacedAs page (now (dir .entry)) r (now (dir .exit)) ⌝ }
+    requires { ⌜ Freed (now dir) ⌝ }
+    requires { ⌜ nT1 (now dir) + nB1 (now dir) ≤ size (now dir) ⌝ }
+    ensures { λ r. ⌜ ((h : Hand) → Holds (h .dir) (now (dir .entry)) → PlacedAs Holds carPolicy page h r (now (dir .exit))) ⌝ }
 {
-    let k1 = lists::wide(dir[header::B1_LENGTH]);
-    let k2 = lists::wide(dir[header::B2_LENGTH]);
-    let b1 = lists::start_of(dir, lists::B1);
-    let at = search::find(dir, b1, k1, page);
-    if at < k1 {
-        let p = raised_target(dir);
-        lists::come_back(dir, lists::B1, at, lists::T2, page, 0);
-        dir[header::P] = p;
-        return 3;
+    let to = returning::Return {
+        b1: dir[header::B2_LENGTH],
+        b2: dir[header::B1_LENGTH],
+        tail: lists::T2,
+        flags: flags::NEW_SHORT,
+    };
+    let kind = returning::come_back(dir, page, to);
+    if kind == kinds::NEW {
+        trim(dir);
+        lists::place_new(dir, page);
     }
-    let b2 = lists::start_of(dir, lists::B2);
-    let at = search::find(dir, b2, k2, page);
-    if at < k2 {
-        let p = lowered_target(dir);
-        lists::come_back(dir, lists::B2, at, lists::T2, page, 0);
-        dir[header::P] = p;
-        return 4;
-    }
-    trim(dir);
-    lists::place_new(dir, page);
-    2
+    kind
 }
 
 // A miss in a full cache.
-pub fn miss(dir: &mut [u32], page: u32) -> entries::Served
-    requires { ⌜ Full (now dir) ⌝ }
-    ensures { λ r. ⌜ Tells (missed carPolicy page (Car.evict (decode (now (dir .entry))))) (r .kind) (r .page) (r .list) (r .moves) (now (dir .exit)) ⌝ }
+pub fn miss(dir: &mut [u32], page: u32) -> engine::Served
+    requires { ⌜ Full car (now dir) ⌝ }
+    ensures { λ r. ⌜ Tells Holds (missed carPolicy page (Car.evict (decode (now (dir .entry))))) r (now (dir .exit)) ⌝ }
 {
     let out = evict(dir);
     let kind = place(dir, page);
-    entries::Served {
+    engine::Served {
         kind,
         page: out.page,
         list: out.list,
-        moves: out.moves,
+        moves: out.hand.moves,
+        cleared: out.hand.cleared,
     }
 }

@@ -1,5 +1,6 @@
 // What every engine answers: what the hand has counted, the evicted page, a request's answer.
 // What lent memory shows of a directory, whatever an engine keeps it in, is a parameter of specs/Shown.
+pub mod counts;
 pub mod kinds;
 
 // Hand moves so far, and the reference bits that they cleared.

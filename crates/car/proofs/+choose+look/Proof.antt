@@ -8,11 +8,14 @@ use borrow.Fn.PlainCycle.{Measures, is, falls, and}
 use Rattle.figures.specs.Entry.{bits}
 use Rattle.figures.specs.Directory.{inCache}
 use Rattle.figures.specs.Words.{decode}
+use Rattle.entries.proofs.flags.bit.Reads as bit-reads
+use Rattle.entries.proofs.flags.cleared.Reads as cleared-reads
+use Rattle.entries.proofs.flags.demoted.Reads as demoted-reads
 use Rattle.entries.proofs.lists.move_head.Reads as move-head-reads
 use Rattle.entries.proofs.lists.start_of.Reads as start-of-reads
-use Rattle.entries.proofs.numbers.greatest.Reads as greatest-reads
-use Rattle.car.proofs.Heads.{first-two, some-length, head-within, choice-first, choice-second}
-use Rattle.car.proofs.Looks.{again-asks, again-ends, stop-ends}
+use Rattle.entries.proofs.targets.t1_at_target.Reads as t1-at-target-reads
+use Rattle.car.proofs.Heads.{room, head-within, some-length, first-chosen, second-chosen}
+use Rattle.car.proofs.Looks.{Again, look-again, look-stops}
 use Rattle.car.proofs.choose.Reads as choose
 use Rattle.car.proofs.choose.Kinds as choose-kinds
 use Rattle.car.proofs.+choose+look.Lts-choose as choose-lts
@@ -42,54 +45,46 @@ look-below t = and 1 look-kinds.ps (falls 1 look-kinds.ps _<_ μ-look t) look.Pr
 
 -- What the callees ask and ensure.
 abbrev choose-calls : ℕ → choose-lts.Claims
-choose-calls t = (greatest-reads.Asked, greatest-reads.Learnt, look-below t, look.Post)
+choose-calls t = (t1-at-target-reads.Asked, t1-at-target-reads.Learnt, look-below t, look.Post)
 
 abbrev look-calls : ℕ → look-lts.Claims
-look-calls t =
-    (start-of-reads.Asked, start-of-reads.Learnt, move-head-reads.Asked, move-head-reads.Learnt, choose-below t, choose.Post)
+look-calls t = (
+  start-of-reads.Asked,
+  start-of-reads.Learnt,
+  bit-reads.Asked,
+  bit-reads.Learnt,
+  cleared-reads.Asked,
+  cleared-reads.Learnt,
+  move-head-reads.Asked,
+  move-head-reads.Learnt,
+  choose-below t,
+  choose.Post,
+  demoted-reads.Asked,
+  demoted-reads.Learnt,
+)
 
 module _ (t : ℕ) where
-  choose-slice-read-greatest : choose-lts.Need-slice-read-greatest (choose-calls t) (choose-at t) choose.Post
-  choose-slice-read-greatest c = search needs
-
-  choose-greatest-requires : choose-lts.Need-greatest-requires (choose-calls t) (choose-at t) choose.Post
-  choose-greatest-requires c κs = search needs
-
-  choose-slice-read-n : choose-lts.Need-slice-read-n (choose-calls t) (choose-at t) choose.Post
-  choose-slice-read-n c = search needs
-
-  choose-mul-n : choose-lts.Need-mul-n (choose-calls t) (choose-at t) choose.Post
-  choose-mul-n c = search needs
+  choose-t1-at-target-requires : choose-lts.Need-t1-at-target-requires (choose-calls t) (choose-at t) choose.Post
+  choose-t1-at-target-requires c κs = omega (arith, c .before .before .pre .1 .0)
 
   choose-look-requires : choose-lts.Need-look-requires (choose-calls t) (choose-at t) choose.Post
   choose-look-requires c κs =
-      let s = c .before .before .before .before .before .before in
-      (omega (arith, s .pre .0), (s .pre .1 .0, (s .pre .1 .1, choice-first (s .pre .1 .1) (omega arith))))
+      let a = c .before .before in
+      let s = a .before .before .before in
+      (omega (arith, s .pre .0), (s .pre .1 .0, (s .pre .1 .1, (omega arith, first-chosen _ (a .t1-at-target .ensures) (c .before .if1 .taken)))))
 
   choose-look-requires-2 : choose-lts.Need-look-requires-2 (choose-calls t) (choose-at t) choose.Post
   choose-look-requires-2 c κs =
-      let s = c .before .before .before .before .before .before in
-      (omega (arith, s .pre .0), (s .pre .1 .0, (s .pre .1 .1, choice-second (s .pre .1 .1) (omega arith))))
+      let a = c .before .before in
+      let s = a .before .before .before in
+      (omega (arith, s .pre .0), (s .pre .1 .0, (s .pre .1 .1, (omega arith, second-chosen _ (a .t1-at-target .ensures) (c .before .if1 .left)))))
 
-  choose-same-length : choose-lts.Need-same-length (choose-calls t) (choose-at t) choose.Post
-  choose-same-length c = search needs
-
-  choose-returns : choose-lts.Need-returns (choose-calls t) (choose-at t) choose.Post
-  choose-returns c = search needs
-
-  choose-same-length-2 : choose-lts.Need-same-length-2 (choose-calls t) (choose-at t) choose.Post
-  choose-same-length-2 c = search needs
-
-  choose-returns-2 : choose-lts.Need-returns-2 (choose-calls t) (choose-at t) choose.Post
-  choose-returns-2 c = search needs
-
-  look-start-of-requires : look-lts.Need-start-of-requires (look-calls t) (look-at t) look.Post
-  look-start-of-requires c κs = search needs
-
-  within : (c : look-lts.After-start-of (look-calls t) (look-at t) look.Post) → c .start-of .result + 1 < length (c .before .before .before .args .dir .now)
+  -- The head's two words are there.
+  within : (c : look-lts.After-start-of (look-calls t) (look-at t) look.Post)
+      → c .start-of .result + 1 < length (c .before .before .before .args .dir .now)
   within c =
       let s = c .before .before .before in
-      head-within (s .pre .1 .1 .0) (s .pre .1 .1 .1) (s .pre .1 .0) (c .start-of .ensures)
+      head-within (s .pre .1 .1 .0) (s .args .i) (s .pre .1 .1 .1 .1) (s .pre .1 .1 .1 .0) (c .start-of .ensures)
 
   look-mul-page : look-lts.Need-mul-page (look-calls t) (look-at t) look.Post
   look-mul-page c = omega (arith, within c)
@@ -106,104 +101,83 @@ module _ (t : ℕ) where
   look-slice-read-f : look-lts.Need-slice-read-f (look-calls t) (look-at t) look.Post
   look-slice-read-f c = omega (arith, within (c .before .before))
 
-  look-sub-move-head : look-lts.Need-sub-move-head (look-calls t) (look-at t) look.Post
-  look-sub-move-head c = search needs
+  look-add-moves : look-lts.Need-add-moves (look-calls t) (look-at t) look.Post
+  look-add-moves c = let r = c .before .before .before .before .before .before .pre .1 .1 .0 .ready in omega (arith, r .left)
 
   look-move-head-requires : look-lts.Need-move-head-requires (look-calls t) (look-at t) look.Post
   look-move-head-requires c κs =
-      let s = c .before .before .before .before .before .before .before in
-      let two = first-two (s .pre .1 .1 .0) (s .pre .1 .1 .1) in
-      let some = some-length (s .pre .1 .1 .0) (s .pre .1 .1 .1) in
-      (s .pre .1 .0, omega arith)
+      let s = c .before .before .before .before .before .before .before .before .before .before in
+      let p = s .pre .1 .1 in
+      (s .pre .1 .0, omega (arith, p .1 .0, some-length (p .0) (s .args .i) (p .1 .1) (p .1 .0)))
 
-  look-add-choose : look-lts.Need-add-choose (look-calls t) (look-at t) look.Post
-  look-add-choose c = search needs
+  look-add-cleared : look-lts.Need-add-cleared (look-calls t) (look-at t) look.Post
+  look-add-cleared c = let r = c .before .before .before .before .before .before .before .before .before .before .before .before .before .before .pre .1 .1 .0 .ready in omega (arith, r .left, r .cleared-most)
+
+  -- A head whose bit is set has moved to T2's tail.
+  looked : (c : look-lts.After-move-head (look-calls t) (look-at t) look.Post)
+      → let s = c .before .before .before .before .before .before .before .before .before .before .before in Again (s .args .dir .now) (s .args .hand) (c .move-head .last .0)
+  looked c =
+      let b = c .before .before .before .before in
+      let o = b .before .before .before .before in
+      let s = o .before .before .before in
+      let p = s .pre .1 .1 in
+      look-again (p .0) (p .1 .0) (p .1 .1) (o .start-of .ensures) (b .bit .result) (b .bit .ensures)
+      (c .before .before .before .if1 .taken) (c .before .cleared .ensures) (c .move-head .ensures)
 
   look-choose-requires : look-lts.Need-choose-requires (look-calls t) (look-at t) look.Post
   look-choose-requires c κs =
-      let o = c .before .before .before .before .before .before .before .before in
-      let s = o .before .before .before in
-      let m = c .before .before .before in
-      let x = again-asks (s .pre .1 .1 .0) (s .pre .1 .1 .1) (o .start-of .ensures) (m .before .before .if1 .taken) (m .move-head .ensures) in
-      (omega (arith, s .pre .0, x .fewer-bits), (x .room, x .turns-on))
-
-  look-add-move-head : look-lts.Need-add-move-head (look-calls t) (look-at t) look.Post
-  look-add-move-head c =
-      let s = c .before .before .before .before .before .before .before in
-      omega (arith, first-two (s .pre .1 .1 .0) (s .pre .1 .1 .1))
+      let m = c .before .before .before .before in
+      let x = looked m in
+      (omega (arith, m .before .before .before .before .before .before .before .before .before .before .before .pre .0, x .fewer), (room (x .turning), x .turning))
 
   look-move-head-requires-2 : look-lts.Need-move-head-requires-2 (look-calls t) (look-at t) look.Post
   look-move-head-requires-2 c κs =
-      let s = c .before .before .before .before .before .before .before in
-      let two = first-two (s .pre .1 .1 .0) (s .pre .1 .1 .1) in
-      let some = some-length (s .pre .1 .1 .0) (s .pre .1 .1 .1) in
-      (s .pre .1 .0, omega arith)
-
-  look-cast-t26 : look-lts.Need-cast-t26 (look-calls t) (look-at t) look.Post
-  look-cast-t26 c =
       let s = c .before .before .before .before .before .before .before .before .before .before in
-      omega (arith, first-two (s .pre .1 .1 .0) (s .pre .1 .1 .1))
-
-  look-add-t27 : look-lts.Need-add-t27 (look-calls t) (look-at t) look.Post
-  look-add-t27 c =
-      let s = c .before .before .before .before .before .before .before .before .before .before in
-      omega (arith, first-two (s .pre .1 .1 .0) (s .pre .1 .1 .1))
-
-  look-add-t28 : look-lts.Need-add-t28 (look-calls t) (look-at t) look.Post
-  look-add-t28 c = search needs
-
-  look-same-length : look-lts.Need-same-length (look-calls t) (look-at t) look.Post
-  look-same-length c = search needs
+      let p = s .pre .1 .1 in
+      (s .pre .1 .0, omega (arith, p .1 .0, some-length (p .0) (s .args .i) (p .1 .1) (p .1 .0)))
 
   look-returns : look-lts.Need-returns (look-calls t) (look-at t) look.Post
-  look-returns c h is count =
-      let o = c .before .before .before .before .before .before .before .before .before .before .before in
-      let s = o .before .before .before in
-      let m = c .before .before .before .before .before .before in
-      again-ends (s .pre .1 .1 .0) (s .pre .1 .1 .1) (o .start-of .ensures) (m .before .before .if1 .taken) (m .move-head .ensures) h is count
-      (c .before .before .choose .ensures)
-
-  look-same-length-2 : look-lts.Need-same-length-2 (look-calls t) (look-at t) look.Post
-  look-same-length-2 c = search needs
+  look-returns c = looked (c .before .before .before .before .before .before .before) .rest (c .before .before .choose .ensures)
 
   look-returns-2 : look-lts.Need-returns-2 (look-calls t) (look-at t) look.Post
-  look-returns-2 c h is count =
-      let o = c .before .before .before .before .before .before .before in
-      let s = o .before .before .before in
+  look-returns-2 c =
       let m = c .before .before in
-      stop-ends (s .pre .1 .1 .0) (s .pre .1 .1 .1) (o .start-of .ensures) (m .before .before .if1 .left) (m .move-head2 .ensures) h is count
+      let b = m .before .before .before .before in
+      let o = b .before .before .before .before in
+      let p = o .before .before .before .pre .1 .1 in
+      look-stops (p .0) (p .1 .0) (p .1 .1) (o .start-of .ensures) (b .bit .result) (b .bit .ensures)
+      (m .before .before .before .if1 .left) (m .before .demoted .ensures) (m .move-head2 .ensures)
 
 pub +choose+look-spec : {M : Type 1} → statement M
 +choose+look-spec =
     close μ-choose μ-look
     (λ t. choose-lts.spec (choose-calls t) (choose-at t) choose.Post
-    (choose-slice-read-greatest t)
-    (choose-greatest-requires t)
-    (choose-slice-read-n t)
-    (choose-mul-n t)
+    (choose-t1-at-target-requires t)
     (choose-look-requires t)
     (choose-look-requires-2 t)
-    (choose-same-length t)
-    (choose-returns t)
-    (choose-same-length-2 t)
-    (choose-returns-2 t))
+    (λ c. search needs)
+    (λ c. search needs)
+    (λ c. search needs)
+    (λ c. search needs))
     (λ t. look-lts.spec (look-calls t) (look-at t) look.Post
-    (look-start-of-requires t)
+    (λ c κs. search needs)
     (look-mul-page t)
     (look-slice-read-page t)
     (look-add-f t)
     (look-mul-f t)
     (look-slice-read-f t)
-    (look-sub-move-head t)
+    (look-add-moves t)
+    (λ c κs. search needs)
+    (λ c κs. search needs)
     (look-move-head-requires t)
-    (look-add-choose t)
+    (look-add-cleared t)
     (look-choose-requires t)
-    (look-add-move-head t)
+    (λ c. search needs)
+    (λ c κs. search needs)
     (look-move-head-requires-2 t)
-    (look-cast-t26 t)
-    (look-add-t27 t)
-    (look-add-t28 t)
-    (look-same-length t)
+    (λ c. search needs)
+    (λ c. search needs)
+    (λ c. search needs)
     (look-returns t)
-    (look-same-length-2 t)
+    (λ c. search needs)
     (look-returns-2 t))

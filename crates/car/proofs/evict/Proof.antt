@@ -3,26 +3,20 @@ use borrow.Author.Needs.{needs}
 use mathlib.Core.Path.{refl}
 use Rattle.figures.specs.Words.{decode}
 use Rattle.figures.specs.Hand.{begin}
-use Rattle.car.proofs.Readiness.{turning, with-room}
-use Rattle.car.proofs.Filled.{held, ready-held, ended-evicts}
+use Rattle.engine.specs.Shown.{Counts}
+use Rattle.car.proofs.Filled.{held, begins, evicted-as}
 use Rattle.car.proofs.evict.Statement.{statement}
 use Rattle.car.proofs.evict.Tie as tie
 
 choose-requires : tie.Need-choose-requires
-choose-requires c κs =
-    let s = c .before .before in
-    let w = s .args .dir .now in
-    let is = held (s .pre) .is in
-    let r = ready-held (s .pre) in
-    (with-room (decode w) w is r, turning (decode w) w is r)
-
-same-length : tie.Need-same-length
-same-length c = search needs
+choose-requires c κs = let full = c .before .before .pre in (held full .room, begins full)
 
 returns : tie.Need-returns
 returns c =
     let s = c .before .before .before .before .before in
-    ended-evicts (s .pre) (c .before .before .choose .ensures (begin 0 0 (decode (s .args .dir .now))) (held (s .pre) .is) refl)
+    let z = begin 0 0 (decode (s .args .dir .now)) in
+    let none : Counts z (record { moves = 0; cleared = 0 }) = record { moves-is = refl; cleared-is = refl } in
+    evicted-as (s .pre) (c .before .before .choose .ensures z (held (s .pre) .is) none)
 
 pub evict-spec : {M : Type 1} → statement M
-evict-spec = tie.close (tie.spec choose-requires same-length returns)
+evict-spec = tie.close (tie.spec choose-requires (λ c. search needs) returns)

@@ -1,0 +1,109 @@
+-- Every move of CART's passes keeps the accounts: it lowers what the cache may still cost by one at least.
+-- By what is known of the head's bit and filter.
+use mathlib.Core.Path.{_≡_, ap}
+use mathlib.Core.Bool.{Bool, true, false}
+use mathlib.Core.List.{List, _∷_}
+use Prim.Native.Nat.{ℕ, _+_, _-_, _*_, _≤_, min}
+use native.Mathlib.Omega.{arith}
+use lib.Dec.{leb}
+use Rattle.terms.specs.Choice.{if_then_else_, ∣_∣}
+use Rattle.terms.proofs.Choice.{either}
+use Rattle.figures.specs.Entry.{Entry, Filter, L, cleared, bits, shortOf, longOf, short, long, total}
+use Rattle.figures.specs.Directory.{Directory, T1, T2, withList, withQ, toTail, cached}
+use Rattle.figures.specs.Cart.{cost, raise, lower}
+use Rattle.laws.proofs.Lists.{length-tail, total-tail, short-or-long, short-and-long}
+use Rattle.engine.specs.declared.counts.ShortCount.{ShortCount}
+use Rattle.engine.specs.declared.counts.LongCount.{LongCount}
+use Rattle.engine.specs.declared.counts.Kept.{Kept}
+use Rattle.engine.specs.Passes.{frontOf, Accounts}
+
+-- What is kept after one more move, which cleared n bits.
+abbrev pub moved : ShortCount → LongCount → ℕ → Kept → Kept
+moved nS nL n k =
+    record { short = nS; long = nL; hand = record { moves = k .hand .moves + 1; cleared = k .hand .cleared + n } }
+
+-- What a bit counts for.
+pub set-bits : (e : Entry) → e .bit ≡ true → (bits e ≡ 1) × (cost e ≡ 2)
+set-bits e set = (ap (λ (b : Bool). if b then 1 else 0) set, ap (λ (b : Bool). if b then 2 else long e) set)
+
+pub clear-bits : (e : Entry) → e .bit ≡ false → (bits e ≡ 0) × (cost e ≡ long e)
+clear-bits e clear = (ap (λ (b : Bool). if b then 1 else 0) clear, ap (λ (b : Bool). if b then 2 else long e) clear)
+
+module _ (d : Directory) (e : Entry) (es : List Entry) {k : Kept} where
+  -- T2's head, its bit set, to T1's tail.
+  pub t2-to-t1 : d .t2 ≡ e ∷ es → e .bit ≡ true → Accounts d k
+      → Accounts (toTail T1 (cleared e) (withList T2 es d)) (moved (k .short) (k .long) 1 k)
+  t2-to-t1 front set a =
+      let l = d .t1 in
+      let e′ = cleared e in
+      omega (
+        arith,
+        ap ∣_∣ front,
+        ap (total short) front,
+        ap (total long) front,
+        ap (total bits) front,
+        set-bits e set,
+        total-tail short l e′,
+        total-tail long l e′,
+        total-tail cost l e′,
+        length-tail l e′,
+        short-or-long (e .filter),
+      )
+
+  -- T1's head, its bit set, to T1's tail, where it is e′.
+  pub t1-round : (e′ : Entry) (nS : ShortCount) (nL : LongCount) → d .t1 ≡ e ∷ es → e .bit ≡ true → e′ .bit ≡ false
+      → nS .0 + short e ≡ k .short .0 + short e′ → nL .0 + long e ≡ k .long .0 + long e′
+      → Accounts d k → Accounts (toTail T1 e′ (withList T1 es d)) (moved nS nL 1 k)
+  t1-round e′ nS nL front set clear nS-follows nL-follows a =
+      omega (
+        arith,
+        ap ∣_∣ front,
+        ap (total short) front,
+        ap (total long) front,
+        ap (total cost) front,
+        set-bits e set,
+        clear-bits e′ clear,
+        total-tail short es e′,
+        total-tail long es e′,
+        total-tail cost es e′,
+        length-tail es e′,
+        short-or-long (e′ .filter),
+      )
+
+  -- T1's head, its bit clear and its filter L, to T2's tail.
+  pub t1-to-t2 : d .t1 ≡ e ∷ es → e .bit ≡ false → e .filter ≡ L → Accounts d k
+      → Accounts (toTail T2 (cleared e) (withList T1 es d)) (moved (k .short) (k .long) 0 k)
+  t1-to-t2 front clear long-is a =
+      let l = d .t2 in
+      let e′ = cleared e in
+      omega (
+        arith,
+        ap ∣_∣ front,
+        ap (total short) front,
+        ap (total long) front,
+        ap (total cost) front,
+        clear-bits e clear,
+        ap shortOf long-is,
+        ap longOf long-is,
+        total-tail short l e′,
+        total-tail long l e′,
+        total-tail bits l e′,
+        length-tail l e′,
+      )
+
+-- The changes of q.
+module _ {k : Kept} (d : Directory) where
+  with-q : (q : ℕ) → q ≤ 2 * d .c → Accounts d k → Accounts (withQ q d) k
+  with-q q fits a = omega arith
+
+  pub raise-keeps : Accounts d k → Accounts (raise (k .short .0) d) k
+  raise-keeps a =
+      either (λ d′. Accounts d′ k) (leb (d .c) (∣ d .t2 ∣ + ∣ d .b2 ∣ + ∣ d .t1 ∣ - k .short .0))
+      (with-q (min (d .q + 1) (2 * d .c - ∣ d .t1 ∣)) (omega arith) a) a
+
+  pub lower-keeps : Accounts d k → Accounts (lower d) k
+  lower-keeps a = omega arith
+
+  -- The counts are all of T1 and T2.
+  pub counts-cached : Accounts d k → k .short .0 + k .long .0 ≡ cached d
+  counts-cached a = omega (arith, short-and-long (d .t1), short-and-long (d .t2))

@@ -1,0 +1,49 @@
+-- The demotion of a hand that memory shows: the chosen list's head, as it is, becomes its history's tail.
+-- Over what memory shows.
+use mathlib.Core.Path.{_≡_, refl}
+use mathlib.Core.Bool.{true, false}
+use mathlib.Core.List.{List, _∷_}
+use Prim.Native.Nat.{ℕ, _+_, _-_}
+use native.Mathlib.Omega.{arith}
+use Rattle.figures.specs.Entry.{Entry}
+use Rattle.figures.specs.Directory.{Directory, T1, T2, B1, B2, withList, toTail, t1AtTarget}
+use Rattle.figures.specs.Hand.{Hand, withCounts, demote}
+use Rattle.figures.specs.Cart.{demotion}
+use Rattle.engine.specs.declared.counts.Kept.{Kept}
+use Rattle.engine.specs.declared.counts.Evicted.{Evicted}
+use Rattle.engine.specs.Passes.{ShowsHand, Evicts}
+
+-- What is answered where page is evicted from a list, whose number is list.
+abbrev pub evictedAs : ℕ → ℕ → ℕ → ℕ → Kept → Evicted
+evictedAs page list nS nL k = record {
+  out = record { page = page; list = list; hand = record { moves = k .hand .moves + 1; cleared = k .hand .cleared } };
+  short = record { 0 = nS };
+  long = record { 0 = nL };
+}
+
+module _ (h : Hand) (e : Entry) (es : List Entry) where
+  from-t1 : t1AtTarget (h .dir) ≡ true → h .dir .t1 ≡ e ∷ es → demotion h ≡ withCounts (h .nS - 1) (h .nL) (demote T1 B1 e es h)
+  from-t1 test front = rw (test, front)
+
+  from-t2 : t1AtTarget (h .dir) ≡ false → h .dir .t2 ≡ e ∷ es → demotion h ≡ withCounts (h .nS) (h .nL - 1) (demote T2 B2 e es h)
+  from-t2 test front = rw (test, front)
+
+module _ {W : Type 0} {Shows : Directory → W → Type 0} {w w₁ : W} {k : Kept} (h : Hand) (e : Entry) (es : List Entry) {page : ℕ}
+    (holds : ShowsHand Shows h w k) (page-is : page ≡ e .page) where
+  pub demotes-T1 : t1AtTarget (h .dir) ≡ true → h .dir .t1 ≡ e ∷ es → Shows (toTail B1 e (withList T1 es (h .dir))) w₁
+      → Evicts Shows (demotion h) (evictedAs page 1 (k .short .0 - 1) (k .long .0) k) w₁
+  demotes-T1 test front shown =
+      rw (from-t1 h e es test front) (record {
+        evicted = record { page-is = page-is; list-is = refl; counts = omega (arith, holds .keeps); shown = shown };
+        short-is = omega (arith, holds .keeps);
+        long-is = holds .keeps .long-is;
+      })
+
+  pub demotes-T2 : t1AtTarget (h .dir) ≡ false → h .dir .t2 ≡ e ∷ es → Shows (toTail B2 e (withList T2 es (h .dir))) w₁
+      → Evicts Shows (demotion h) (evictedAs page 2 (k .short .0) (k .long .0 - 1) k) w₁
+  demotes-T2 test front shown =
+      rw (from-t2 h e es test front) (record {
+        evicted = record { page-is = page-is; list-is = refl; counts = omega (arith, holds .keeps); shown = shown };
+        short-is = holds .keeps .short-is;
+        long-is = omega (arith, holds .keeps);
+      })
