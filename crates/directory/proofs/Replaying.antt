@@ -48,7 +48,7 @@ moves-counted {w} r x =
 pub record Midway (w trace answers : List ℕ) (i : ℕ) (v given : List ℕ) (t : Tally) : Type 0 where
   pub inside : i ≤ ∣ trace ∣
   pub ready : Ready v
-  pub within : Within i t
+  pub within : Within i (defined t)
   pub front : List ℕ
   pub front-is : ∣ front ∣ ≡ 4 * i
   pub answers-are : given ≡ front ++ drop (4 * i) answers
@@ -78,10 +78,10 @@ module _ (w trace answers : List ℕ) where
       abbrev served : Served
       served = request (getD trace i 0) (decode v)
 
-      next-within : Within (i + 1) t′
+      next-within : Within (i + 1) (defined t′)
       next-within =
           subst⁻¹ (Within (i + 1)) (s .tally-is)
-          (noted-within i t (served .kind) (served .moves) (moves-counted (m .ready) (getD trace i 0)) (m .within))
+          (noted-within i (defined t) served (moves-counted (m .ready) (getD trace i 0)) (m .within))
 
       next-answers : given′ ≡ (m .front ++ answer served) ++ drop (4 * (i + 1)) answers
       next-answers =
@@ -94,7 +94,7 @@ module _ (w trace answers : List ℕ) where
       next-run : before (m .front ++ answer served) (runFrom (defined t′) (drop (i + 1) trace) (decode v′)) ≡ run trace (decode w)
       unfolding runFrom
       next-run =
-          rw (s .tally-is, s .words-are, decode-encode, add-one i, append-assoc) (rw (drop-cons trace i 0 more) at (m .comes-to))
+          rw (s .tally-is, ← s .shown, decode-encode, add-one i, append-assoc) (rw (drop-cons trace i 0 more) at (m .comes-to))
 
       pub goes-on : Midway w trace answers (i + 1) v′ given′ t′
       goes-on = record {

@@ -1,6 +1,6 @@
 -- One request of a sound directory in the words: what each way through `serve` comes to.
 -- Assumes nothing.
-use mathlib.Core.Path.{_≡_, refl, sym, ap, _∙_, subst⁻¹}
+use mathlib.Core.Path.{_≡_, refl, sym, ap, _∙_, subst, subst⁻¹}
 use mathlib.Core.Bool.{true, false, _||_}
 use mathlib.Core.List.{List, _++_}
 use Prim.Native.Nat.{ℕ, _+_, _≤_, _<_}
@@ -21,14 +21,16 @@ use Rattle.laws.proofs.Encoding.{encode-decode, words-fit}
 use Rattle.laws.proofs.Soundness.{facts-of-words}
 use Rattle.laws.proofs.Requests.{serve-hit, serve-room, serve-full}
 use Rattle.laws.proofs.Kept.{request-keeps}
-use Rattle.entries.specs.Answers.{Tells}
+use Rattle.engine.specs.declared.Served.{Served as Answered}
+use Rattle.engine.specs.Shown.{Tells}
+use Rattle.entries.specs.Holds.{Holds}
 use Rattle.entries.specs.Stretches.{Room, index}
 use Rattle.entries.proofs.Laid.{Header, header}
 use Rattle.entries.proofs.Reading.{told, cache-held}
 use Rattle.entries.proofs.Indexes.{index-has, index-lacks, has-append}
 use Rattle.entries.proofs.Rooms.{roomy}
 use Rattle.entries.proofs.Searching.{Found}
-use Rattle.directory.specs.Ready.{Ready}
+use Rattle.directory.specs.Ready.{stillOf, Ready}
 
 pub ready : (w : List ℕ) → sound w ≡ true → Ready w
 ready w is-sound =
@@ -80,52 +82,45 @@ module _ {w : List ℕ} (r : Ready w) where
   names-cart is-not = ap policyOf (sym (held .policy) ∙ other-is-cart is-not)
 
   -- a request leaves it sound
-  pub ready-again : (x : ℕ) (w′ : List ℕ) → w′ ≡ encode (request x d .dir) → Ready w′
+  pub ready-again : (x : ℕ) (w′ : List ℕ) → Holds (request x d .dir) w′ → Ready w′
   ready-again x w′ is =
-      ready w′ (subst⁻¹ (λ (l : List ℕ). sound l ≡ true) is (request-keeps x d (decoded-sound w (r .is-sound)) .sound-again))
+      ready w′ (subst (λ (l : List ℕ). sound l ≡ true) is (request-keeps x d (decoded-sound w (r .is-sound)) .sound-again))
 
   -- by what the request comes to
   module _ (x : ℕ) (w′ : List ℕ) where
-    tells-as : {s : Served} → request x d ≡ s → w′ ≡ encode (s .dir)
-        → Tells (request x d) (s .kind) (s .page) (s .list) (s .moves) w′ × Ready w′
-    tells-as {s} e are =
-        let words′ = are ∙ ap (λ (s : Served). encode (s .dir)) (sym e) in (
-          record {
-            kind-is = sym (ap (λ (s : Served). s .kind) e);
-            page-is = sym (ap (λ (s : Served). s .page) e);
-            list-is = sym (ap (λ (s : Served). s .list) e);
-            moves-is = sym (ap (λ (s : Served). s .moves) e);
-            words-are = words′;
-          },
-          ready-again x w′ words′,
-        )
+    tells-as : {s : Served} (a : Answered) → request x d ≡ s → Tells Holds s a w′ → Tells Holds (request x d) a w′ × Ready w′
+    tells-as a e told =
+        let all = subst⁻¹ (λ (s : Served). Tells Holds s a w′) e told in (all, ready-again x w′ (all .shown))
+
+    still-told : (kind : ℕ) (d′ : Directory) → Holds d′ w′ → Tells Holds (still kind d′) (stillOf kind) w′
+    still-told kind d′ is =
+        record { kind-is = refl; page-is = refl; list-is = refl; moves-is = refl; cleared-is = refl; shown = is }
 
     -- the page's place in T1 and T2, as `find` gives it
     module _ (n k : ℕ) (found : Found w 8 n x k) (all : n ≡ nT1 w + nT2 w) where
       pub place : k ≡ index x (d .t1 ++ d .t2)
       place = told (cache-held d w words-held) found refl (length-append (d .t1) (d .t2) ∙ omega (arith, held))
 
-      pub tells-hit : k < n → w′ ≡ encode (hit x d) → Tells (request x d) 0 0 0 0 w′ × Ready w′
-      tells-hit inside are =
+      pub tells-hit : k < n → Holds (hit x d) w′ → Tells Holds (request x d) (stillOf 0) w′ × Ready w′
+      tells-hit inside is =
           let there = index-has x (d .t1 ++ d .t2) (omega (arith, place, length-append (d .t1) (d .t2), held)) in
           let marks = by-named (λ n. still 0 (policyOf n .hit x d) ≡ still 0 (hit x d)) refl refl in
-          tells-as (serve-hit (policyOf (d .policy)) x d (sym (has-append x (d .t1) (d .t2)) ∙ there) ∙ marks) are
+          tells-as (stillOf 0)
+          (serve-hit (policyOf (d .policy)) x d (sym (has-append x (d .t1) (d .t2)) ∙ there) ∙ marks) (still-told 0 (hit x d) is)
 
       missed-cache : n ≤ k → has x (d .t1) || has x (d .t2) ≡ false
       missed-cache outside =
           sym (has-append x (d .t1) (d .t2)) ∙ index-lacks x (d .t1 ++ d .t2) (omega (arith, place, length-append (d .t1) (d .t2), held))
 
-      pub tells-room : n ≤ k → n < size w → w′ ≡ encode (placeNew x d) → Tells (request x d) 1 0 0 0 w′ × Ready w′
-      tells-room outside free are =
+      pub tells-room : n ≤ k → n < size w → Holds (placeNew x d) w′ → Tells Holds (request x d) (stillOf 1) w′ × Ready w′
+      tells-room outside free is =
           let room = ne-eqb (cached d) (d .c) (λ e. omega (arith, held)) in
-          tells-as (serve-room (policyOf (d .policy)) x d (missed-cache outside) room) are
+          tells-as (stillOf 1) (serve-room (policyOf (d .policy)) x d (missed-cache outside) room) (still-told 1 (placeNew x d) is)
 
-      pub tells-full : (π : Policy) → policyOf (d .policy) ≡ π → n ≤ k → size w ≤ n → {kind page list moves : ℕ}
-          → Tells (missed π x (π .evict d)) kind page list moves w′ → Tells (request x d) kind page list moves w′ × Ready w′
-      tells-full π named outside full {kind} {page} {list} {moves} t =
-          let comes-to : request x d ≡ missed π x (π .evict d) =
-          serve-full (policyOf (d .policy)) x d (missed-cache outside) (eq-eqb (cached d) (d .c) (omega (arith, held, r .cache-fits)))
-          ∙ ap (λ (π : Policy). missed π x (π .evict d)) named in (
-            subst⁻¹ (λ (s : Served). Tells s kind page list moves w′) comes-to t,
-            ready-again x w′ (t .words-are ∙ ap (λ (s : Served). encode (s .dir)) (sym comes-to)),
-          )
+      pub tells-full : (π : Policy) → policyOf (d .policy) ≡ π → n ≤ k → size w ≤ n → {a : Answered}
+          → Tells Holds (missed π x (π .evict d)) a w′ → Tells Holds (request x d) a w′ × Ready w′
+      tells-full π named outside full {a} told =
+          let is-full = eq-eqb (cached d) (d .c) (omega (arith, held, r .cache-fits)) in
+          tells-as a
+          (serve-full (policyOf (d .policy)) x d (missed-cache outside) is-full ∙ ap (λ (π : Policy). missed π x (π .evict d)) named)
+          told

@@ -7,11 +7,17 @@ use Prim.Native.Nat.{ℕ, _+_, _*_, _≤_}
 use lib.ListN.{take, drop}
 use Rattle.terms.specs.Choice.{∣_∣}
 use Rattle.figures.specs.Request.{answer, request}
-use Rattle.figures.specs.Run.{run}
+use Rattle.figures.specs.Run.{noted, run}
 use Rattle.tally.specs.declared.Tally.{Tally}
-use Rattle.tally.specs.Note.{defined, notedOf}
+use Rattle.engine.specs.declared.Served.{Served}
+use Rattle.tally.specs.Note.{defined}
+use Rattle.entries.specs.Holds.{Holds}
 use Rattle.figures.specs.Words.{encode, decode, size, nT1, nT2, nB1, nB2}
 use Rattle.figures.specs.Sound.{sound}
+
+-- An answer of this kind that evicts nothing.
+abbrev pub stillOf : ℕ → Served
+stillOf kind = record { kind = kind; page = 0; list = 0; moves = 0; cleared = 0 }
 
 -- The words of a sound directory, with the numbers that tell where its lists are.
 pub record Ready (w : List ℕ) : Type 0 where
@@ -23,8 +29,8 @@ pub record Ready (w : List ℕ) : Type 0 where
 
 -- One request of a run: the tally, the words and the answers after it, from those before it.
 pub record Stepped (page : ℕ) (w answers : List ℕ) (at : ℕ) (t : Tally) (r : Tally) (w′ answers′ : List ℕ) : Type 0 where
-  pub tally-is : r ≡ notedOf t (request page (decode w) .kind) (request page (decode w) .moves)
-  pub words-are : w′ ≡ encode (request page (decode w) .dir)
+  pub tally-is : defined r ≡ noted (request page (decode w)) (defined t)
+  pub shown : Holds (request page (decode w) .dir) w′
   pub answers-are : answers′ ≡ take at answers ++ (answer (request page (decode w)) ++ drop (at + 4) answers)
   pub ready-again : Ready w′
 

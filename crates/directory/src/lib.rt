@@ -7,10 +7,12 @@ ghost use lib.ListN.{length, take, drop, replicate};
 ghost use Rattle.figures.specs.Words.{decode};
 ghost use Rattle.figures.specs.Request.{request};
 ghost use Rattle.figures.specs.Run.{zeroTally};
-ghost use Rattle.entries.specs.Answers.{Tells};
+ghost use Rattle.engine.specs.Shown.{Tells};
+ghost use Rattle.entries.specs.Holds.{Holds};
 ghost use Rattle.tally.specs.Note.{defined, Small};
 ghost use Rattle.directory.specs.Promises.{Freshened, Checked, Requested, Replayed};
-ghost use Rattle.directory.specs.Ready.{Ready, Stepped, RunThrough};
+ghost use Rattle.directory.specs.Ready.{stillOf, Ready, Stepped, RunThrough};
+use engine::kinds;
 use entries::header;
 use entries::lists;
 use entries::search;
@@ -78,31 +80,34 @@ pub fn check(dir: &[u32]) -> u32
     refusals::ACCEPTED
 }
 
+// "For kinds 0 and 1 the other three are 0."
+fn still(kind: u32) -> engine::Served
+    ensures { λ r. ⌜ r ≡ stillOf kind ⌝ }
+{
+    engine::Served {
+        kind,
+        page: 0,
+        list: 0,
+        moves: 0,
+        cleared: 0,
+    }
+}
+
 // One request of a sound directory, which it leaves sound: the step under requests and runs.
-fn serve(dir: &mut [u32], page: u32) -> entries::Served
+fn serve(dir: &mut [u32], page: u32) -> engine::Served
     requires { ⌜ Ready (now dir) ⌝ }
-    ensures { λ r. ⌜ Tells (request page (decode (now (dir .entry)))) (r .kind) (r .page) (r .list) (r .moves) (now (dir .exit)) × Ready (now (dir .exit)) ⌝ }
+    ensures { λ r. ⌜ Tells Holds (request page (decode (now (dir .entry)))) r (now (dir .exit)) × Ready (now (dir .exit)) ⌝ }
 {
     let n1 = lists::wide(dir[header::T1_LENGTH]);
     let n2 = lists::wide(dir[header::T2_LENGTH]);
     let at = search::find(dir, header::ENTRIES, n1 + n2, page);
     if at < n1 + n2 {
         lists::mark(dir, at);
-        return entries::Served {
-            kind: 0,
-            page: 0,
-            list: 0,
-            moves: 0,
-        };
+        return still(kinds::HIT);
     }
     if n1 + n2 < lists::wide(dir[header::SIZE]) {
         lists::place_new(dir, page);
-        return entries::Served {
-            kind: 1,
-            page: 0,
-            list: 0,
-            moves: 0,
-        };
+        return still(kinds::WITH_ROOM);
     }
     if dir[header::POLICY] == policies::CAR {
         car::miss(dir, page)
@@ -142,7 +147,7 @@ pub struct Ran {
 }
 
 // An answer's four words, written from word at on.
-fn put_answer(answers: &mut [u32], at: usize, served: entries::Served)
+fn put_answer(answers: &mut [u32], at: usize, served: engine::Served)
     requires { ⌜ at + 4 ≤ length (now answers) ⌝ }
     ensures { λ _. ⌜ now (answers .exit) ≡ take at (now (answers .entry)) ++ (served .kind ∷ served .page ∷ served .list ∷ served .moves ∷ drop (at + 4) (now (answers .entry))) ⌝ }
 {
@@ -160,7 +165,7 @@ fn step(dir: &mut [u32], page: u32, answers: &mut [u32], at: usize, t: tally::Ta
 {
     let served = serve(dir, page);
     put_answer(answers, at, served);
-    tally::counted(t, served.kind, served.moves)
+    tally::counted(t, served)
 }
 
 fn no_tally() -> tally::Tally

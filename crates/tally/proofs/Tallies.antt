@@ -17,14 +17,14 @@ pub noted-defined : (t : Tally) (r : Served) (s : Request.Served) → r .kind �
 noted-defined t r s kind moves = rw (kind, moves)
 
 -- The tally of n answers, of at most 2,049 moves each, is at most this large.
-pub record Within (n : ℕ) (t : Tally) : Type 0 where
+pub record Within (n : ℕ) (t : Run.Tally) : Type 0 where
   pub requests : t .requests ≤ n
   pub hits : t .hits ≤ n
   pub misses : t .misses ≤ n
   pub evictions : t .evictions ≤ n
   pub moves : t .moves ≤ 2049 * n
 
-pub within-small : {n : ℕ} {t : Tally} → Within n t → n < 1000 → Small t
+pub within-small : {n : ℕ} {t : Tally} → Within n (defined t) → n < 1000 → Small t
 within-small w l = record {
   requests = omega arith;
   hits = omega arith;
@@ -41,11 +41,11 @@ other-at-most : (b : Bool) → (if b then 0 else 1) ≤ 1
 other-at-most true = omega arith
 other-at-most false = omega arith
 
-pub noted-within : (n : ℕ) (t : Tally) (r : Served) → r .moves ≤ 2049 → Within n t → Within (n + 1) (notedOf t r)
-noted-within n t r l w = record {
+pub noted-within : (n : ℕ) (t : Run.Tally) (s : Request.Served) → s .moves ≤ 2049 → Within n t → Within (n + 1) (Run.noted s t)
+noted-within n t s l w = record {
   requests = omega arith;
-  hits = omega (arith, one-at-most (eqb (r .kind) 0));
-  misses = omega (arith, other-at-most (eqb (r .kind) 0));
-  evictions = omega (arith, one-at-most (leb 2 (r .kind)));
+  hits = omega (arith, one-at-most (eqb (s .kind) 0));
+  misses = omega (arith, other-at-most (eqb (s .kind) 0));
+  evictions = omega (arith, one-at-most (leb 2 (s .kind)));
   moves = omega arith;
 }
