@@ -1,65 +1,83 @@
--- The evict part from a full directory: its counts at the start, and that the code's two passes end where the definition's do.
--- Assumes nothing.
+-- The evict part from a full directory: its counts at the start, and what it leaves, which is what place needs.
+-- The counts are those of T1 and T2 before and after it.
 use mathlib.Core.Path.{_≡_, refl, _∙_}
 use mathlib.Core.List.{List}
 use Prim.Native.Nat.{ℕ, _+_, _-_}
 use native.Mathlib.Omega.{arith}
 use lib.ListN.{length-append}
+use Rattle.terms.specs.Policies.{cart}
 use Rattle.figures.specs.Entry.{bits, long, total}
 use Rattle.figures.specs.Directory.{inCache}
 use Rattle.figures.specs.Words.{nT1, nT2, decode}
-use Rattle.terms.specs.Policies.{cart}
-use Rattle.figures.specs.Hand.{Hand, Look, Ends}
-use Rattle.figures.specs.Cart.{cost, firstLook, secondLook, firstPass, secondPass, counted}
+use Rattle.figures.specs.Cart.{cost, counted, evict}
+use Rattle.figures.specs.Demands.{CartStops}
 use Rattle.laws.proofs.Lists.{total-append, total-at-most, bits-at-most-one, short-and-long}
-use Rattle.laws.proofs.Repeats.{ends-once}
-use Rattle.laws.proofs.Facts.{CartFacts}
-use Rattle.laws.proofs.Soundness.{cart-iff}
-use Rattle.laws.proofs.Cart.{cost-at-most-two, cart-stops}
+use Rattle.laws.proofs.Cart.{cost-at-most-two, cart-stops, cart-opens, cart-opened, cart-counts}
+use Rattle.engine.specs.declared.counts.Kept.{Kept}
+use Rattle.engine.specs.declared.counts.Evicted.{Evicted}
+use Rattle.engine.specs.Passes.{Passing, ShowsHand, Evicts}
+use Rattle.entries.specs.Holds.{Holds}
+use Rattle.entries.specs.Flags.{ofFlag}
 use Rattle.entries.specs.Leaves.{OfEntries}
-use Rattle.entries.specs.Stretches.{ofFlag}
+use Rattle.entries.specs.Returning.{Full, Freed}
 use Rattle.entries.proofs.Laid.{header}
 use Rattle.entries.proofs.Reading.{told, cache-held}
-use Rattle.entries.proofs.Rooms.{Filled, filled}
-use Rattle.cart.specs.Passing.{Full, Passing, Holds, Ended}
-use Rattle.cart.proofs.Accounts.{passing}
+use Rattle.entries.proofs.Rooms.{Filled, filled, freed}
+use Rattle.cart.specs.Passing.{CountsFit}
 
-pub held : {w : List ℕ} → Full w → Filled cart w
-held f = filled (f .is-sound) (f .is-cart) (f .is-full)
+-- What is kept at the start, where n pages are cached and so many of them are L.
+abbrev pub keptAtStart : ℕ → ℕ → Kept
+keptAtStart n longs =
+    record { short = record { 0 = n - longs }; long = record { 0 = longs }; hand = record { moves = 0; cleared = 0 } }
 
-pub own : {w : List ℕ} → Full w → CartFacts (decode w)
-own {w} f = cart-iff (decode w) .0 (held f .own)
+module _ {w : List ℕ} (f : Full cart w) where
+  abbrev a : Filled cart w
+  a = filled f
 
--- What `count` says of the entries of T1 and T2.
-module _ {w : List ℕ} (f : Full w) (longs : ℕ) (counts : OfEntries w 8 (nT1 w + nT2 w) (λ l. longs ≡ total (ofFlag 2) l)) where
-  counts-longs : longs ≡ inCache long (decode w)
-  counts-longs =
-      let a = held f in
+  pub stops : CartStops (decode w)
+  stops = cart-stops (decode w) (a .shared) (a .own) (a .full)
+
+  -- What `count` says of the entries of T1 and T2.
+  module _ (longs : ℕ) (counts : OfEntries w 8 (nT1 w + nT2 w) (λ l. longs ≡ total (ofFlag 2) l)) where
+    counts-longs : longs ≡ inCache long (decode w)
+    counts-longs =
+        let d = decode w in
+        let r = header d w (a .is) in
+        told (cache-held d w (a .is)) counts refl (simp length-append (omega arith)) ∙ total-append long (d .t1) (d .t2)
+
+    pub begins-passing : Passing Holds w (keptAtStart (nT1 w + nT2 w) longs)
+    begins-passing =
+        let d = decode w in
+        let r = header d w (a .is) in
+        let n = counts-longs in
+        let most-t1 = total-at-most cost 2 cost-at-most-two (d .t1) in
+        let most-t2 = total-at-most bits 1 bits-at-most-one (d .t2) in
+        record {
+          dir = d;
+          shown = a .is;
+          accounts = omega (arith, a .shared, a .own, a .full, short-and-long (d .t1), short-and-long (d .t2));
+        }
+
+    pub begins-shown : ShowsHand Holds (counted (decode w)) w (keptAtStart (nT1 w + nT2 w) longs)
+    unfolding begins-passing
+    begins-shown = record { shown = a .is; keeps = omega (arith, begins-passing .accounts) }
+
+  pub opened : {W : List ℕ} {r : Evicted} → Evicts Holds (evict (decode w)) r W → Freed W × CountsFit W (r .short) (r .long)
+  opened {W} e =
       let d = decode w in
-      let r = header d w (a .is) in
-      told (cache-held d w (a .is)) counts refl (simp length-append (omega arith)) ∙ total-append long (d .t1) (d .t2)
-
-  pub begins-passing : Passing w (nT1 w + nT2 w - longs) longs 0
-  begins-passing =
-      let a = held f in
-      let o = own f in
-      let d = decode w in
-      let r = header d w (a .is) in
-      let n = counts-longs in
-      let most-t1 = total-at-most cost 2 cost-at-most-two (d .t1) in
-      let most-t2 = total-at-most bits 1 bits-at-most-one (d .t2) in
-      passing d (a .is) (omega (arith, short-and-long (d .t1), short-and-long (d .t2)))
-
--- The code's repeat and the definition's end at one hand.
-ended-at : {look : Hand → Look} {h z : Hand} {w : List ℕ} {nS nL moves : ℕ} → Ends look h z → Ended look h w nS nL moves → Holds z w nS nL moves
-ended-at ends e = rw (ends-once (e .ends) ends) at (e .holds)
-
-pub passes-end : {w w₁ w₂ : List ℕ} {nS nL nS₁ nL₁ moves₁ nS₂ nL₂ moves₂ : ℕ} → Full w → Passing w nS nL 0
-    → ((h : Hand) → Holds h w nS nL 0 → Ended firstLook h w₁ nS₁ nL₁ moves₁)
-    → ((h : Hand) → Holds h w₁ nS₁ nL₁ moves₁ → Ended secondLook h w₂ nS₂ nL₂ moves₂)
-    → Holds (secondPass (firstPass (counted (decode w)))) w₂ nS₂ nL₂ moves₂
-passes-end {w} {nS = nS} {nL = nL} f p first second =
-    let a = held f in
-    let stops = cart-stops (decode w) (a .shared) (own f) (a .full) in
-    let begins : Holds (counted (decode w)) w nS nL 0 = record { words-are = p .is; short-is = p .shorts; long-is = p .longs; moves-is = refl } in
-    ended-at (stops .second) (second _ (ended-at (stops .first) (first (counted (decode w)) begins)))
+      let d′ = evict d .dir in
+      let shown = e .evicted .shown in
+      let counts = cart-counts d (a .shared) (a .own) (a .full) in
+      let h = header d′ W shown in (
+        freed a d′ shown (cart-opens d (a .shared) (a .own) (a .full)),
+        omega (
+          arith,
+          cart-opened d (a .shared) (a .own) (a .full),
+          e .short-is,
+          e .long-is,
+          counts .0,
+          counts .1,
+          short-and-long (d′ .t1),
+          short-and-long (d′ .t2),
+        ),
+      )

@@ -1,55 +1,68 @@
--- A page that comes back from a history, in the words: CART's new target, the page at T1's tail, and q raised after it.
--- Assumes nothing.
-use mathlib.Core.Path.{_≡_, refl, sym, ap, _∙_, subst⁻¹}
-use mathlib.Core.Bool.{true}
+-- A page placed by CART, from what a page that comes back leaves: q raised after one from B2, trim before a new one.
+-- By the answer's kind.
+use mathlib.Core.Path.{_≡_, refl}
 use mathlib.Core.List.{List}
-use Prim.Native.Nat.{ℕ, _+_, _-_, _*_, _/_, _≤_, min, max}
+use Prim.Native.Nat.{ℕ}
 use native.Mathlib.Omega.{arith}
-use lib.ListN.{getD, set}
-use Rattle.figures.specs.Entry.{Entry, newLong, has, without}
-use Rattle.figures.specs.Directory.{Directory, unit, Name, T1, B1, B2, withList, withP, toTail, cached, remembered}
-use Rattle.figures.specs.Words.{encode, nT1, nT2, nB1, nB2}
+use Rattle.figures.specs.Entry.{newLong}
+use Rattle.figures.specs.Directory.{T1, placeNew}
+use Rattle.figures.specs.Words.{decode}
 use Rattle.figures.specs.Hand.{Hand}
-use Rattle.figures.specs.Cart.{raise, placeB1, backFromB2, placeB2}
+use Rattle.figures.specs.Cart.{raise, trim, placeB1, placeB2}
+use Rattle.figures.specs.Request.{cartPolicy}
 use Rattle.laws.proofs.Lists.{length-tail, length-without}
+use Rattle.engine.specs.declared.counts.ShortCount.{ShortCount}
+use Rattle.engine.specs.declared.counts.LongCount.{LongCount}
+use Rattle.engine.specs.Shown.{Makes, PlacedAs}
+use Rattle.engine.proofs.Placed.{placed-B1, placed-B2, placed-new}
+use Rattle.entries.specs.Holds.{Holds}
 use Rattle.entries.specs.Stretches.{Room}
-use Rattle.entries.proofs.Laid.{with-p}
+use Rattle.entries.specs.Returning.{Freed, Returned, from-b1, from-b2, is-new, backFromB2}
+use Rattle.entries.proofs.Laid.{header}
 use Rattle.entries.proofs.Rooms.{roomy}
+use Rattle.cart.specs.Passing.{Raisable, CountsFit}
 
--- The page at T1's tail, the target as it was.
-abbrev moved : ℕ → Name → List Entry → Directory → Directory
-moved x i rest d = toTail T1 (newLong x) (withList i rest d)
-
-module _ (x : ℕ) (h : Hand) {w L : List ℕ} {p n : ℕ} (is : encode (h .dir) ≡ w) where
-  pub back-B1 : n ≡ h .nS → p ≡ min (getD w 2 0 + max unit (unit * n / nB1 w)) (unit * getD w 1 0)
-      → L ≡ encode (moved x B1 (without x (h .dir .b1)) (h .dir)) → set L 2 p ≡ encode (placeB1 x h)
+-- By where the page was.
+module _ {x : ℕ} {h : Hand} {w w₁ : List ℕ} where
+  pub from-B1 : {kind : ℕ} → Returned (h .dir) x (newLong x) T1 (h .nS) (h .nL) w w₁ kind → ¬ (kind ≡ 4) → ¬ (kind ≡ 2)
+      → PlacedAs Holds cartPolicy x h kind w₁
   unfolding placeB1
-  back-B1 short target words =
-      with-p (moved x B1 (without x (h .dir .b1)) (h .dir)) words
-      (target
-      ∙ ap (λ (n : ℕ). min (getD w 2 0 + max unit (unit * n / nB1 w)) (unit * getD w 1 0)) short
-      ∙ ap (λ (l : List ℕ). min (getD l 2 0 + max unit (unit * h .nS / nB1 l)) (unit * getD l 1 0)) (sym is))
+  from-B1 (from-b1 found holds) not-four not-two = placed-B1 Holds cartPolicy x h found holds
+  from-B1 (from-b2 lacks found holds) not-four not-two = absurd (not-four refl)
+  from-B1 (is-new not-b1 not-b2 same) not-four not-two = absurd (not-two refl)
 
-  -- Before line 20, which raises q.
-  pub back-B2 : n ≡ h .nL → p ≡ getD w 2 0 - max unit (unit * n / nB2 w)
-      → L ≡ encode (moved x B2 (without x (h .dir .b2)) (h .dir)) → set L 2 p ≡ encode (backFromB2 x h)
-  back-B2 long target words =
-      with-p (moved x B2 (without x (h .dir .b2)) (h .dir)) words
-      (target
-      ∙ ap (λ (n : ℕ). getD w 2 0 - max unit (unit * n / nB2 w)) long
-      ∙ ap (λ (l : List ℕ). getD l 2 0 - max unit (unit * h .nL / nB2 l)) (sym is))
+  pub from-B2 : {kind : ℕ} {w₂ : List ℕ} → Returned (h .dir) x (newLong x) T1 (h .nS) (h .nL) w w₁ kind → kind ≡ 4
+      → Makes Holds (raise (h .nS)) w₁ w₂ → PlacedAs Holds cartPolicy x h kind w₂
+  unfolding placeB2
+  from-B2 (from-b1 found holds) is raised = absurd (omega arith)
+  from-B2 (from-b2 lacks found holds) is raised =
+      placed-B2 Holds cartPolicy x h lacks found (raised (backFromB2 (h .dir) x (newLong x) T1 (h .nL)) holds)
+  from-B2 (is-new not-b1 not-b2 same) is raised = absurd (omega arith)
 
-pub raised-B2 : (x : ℕ) (h : Hand) {w : List ℕ} {nS : ℕ} → nS ≡ h .nS → w ≡ encode (raise nS (backFromB2 x h)) → w ≡ encode (placeB2 x h)
-unfolding placeB2
-raised-B2 x h short words = words ∙ ap (λ (n : ℕ). encode (raise n (backFromB2 x h))) short
+  pub new-page : {kind : ℕ} {w₂ : List ℕ} → Returned (h .dir) x (newLong x) T1 (h .nS) (h .nL) w w₁ kind → kind ≡ 2
+      → (w₁ ≡ w → Holds (placeNew x (trim (h .dir))) w₂) → PlacedAs Holds cartPolicy x h kind w₂
+  new-page (from-b1 found holds) is placed = absurd (omega arith)
+  new-page (from-b2 lacks found holds) is placed = absurd (omega arith)
+  new-page (is-new not-b1 not-b2 same) is placed = placed-new Holds cartPolicy x h not-b1 not-b2 (placed same)
 
--- Line 20 may raise q in the words that the move has left.
-pub raise-ready : (d : Directory) {L : List ℕ} (nS x p : ℕ) → L ≡ encode (moved x B2 (without x (d .b2)) d)
-    → has x (d .b2) ≡ true → cached d + 1 ≡ d .c → remembered d ≤ d .c + 1 → d .c ≤ 1024 → d .q ≤ 2 * d .c → nS ≤ cached d
-    → let w = set L 2 p in Room w × ((getD w 1 0 ≤ 1024) × (getD w 3 0 ≤ 2048) × (nT1 w ≤ getD w 1 0) × (nS ≤ nT1 w + nT2 w))
-raise-ready d nS x p words found room history small q shorts =
-    let d₁ = moved x B2 (without x (d .b2)) d in
-    let n = length-tail (d .t1) (newLong x) in
-    let m = length-without x (d .b2) found in
-    subst⁻¹ (λ (v : List ℕ). Room v × ((getD v 1 0 ≤ 1024) × (getD v 3 0 ≤ 2048) × (nT1 v ≤ getD v 1 0) × (nS ≤ nT1 v + nT2 v)))
-    (with-p d₁ words refl) (roomy (withP p d₁) refl (omega arith) small, (omega arith, omega arith, omega arith, omega arith))
+-- The words then: unchanged for a new page, and such that q may be raised for one from B2.
+module _ {x : ℕ} {w w₁ : List ℕ} {nS : ShortCount} {nL : LongCount} where
+  pub unchanged : {kind : ℕ} → Returned (decode w) x (newLong x) T1 (nS .0) (nL .0) w w₁ kind → kind ≡ 2 → w₁ ≡ w
+  unchanged (from-b1 found holds) is = absurd (omega arith)
+  unchanged (from-b2 lacks found holds) is = absurd (omega arith)
+  unchanged (is-new not-b1 not-b2 same) is = same
+
+  pub raise-ready : {kind : ℕ} → Returned (decode w) x (newLong x) T1 (nS .0) (nL .0) w w₁ kind → kind ≡ 4 → Freed w → CountsFit w nS nL
+      → Room w₁ × Raisable w₁ (nS .0)
+  raise-ready (from-b1 found holds) is free fit = absurd (omega arith)
+  raise-ready (is-new not-b1 not-b2 same) is free fit = absurd (omega arith)
+  raise-ready (from-b2 lacks found holds) is free fit =
+      let d = decode w in
+      let d₁ = backFromB2 d x (newLong x) T1 (nL .0) in
+      let h = header d w (free .is) in
+      let h₁ = header d₁ w₁ holds in
+      let n = length-tail (d .t1) (newLong x) in
+      let m = length-without x (d .b2) found in (
+        roomy d₁ holds (omega (arith, free .one-free, free .history-most)) (omega (arith, free .c-most)),
+        omega (arith, free .c-most, free .one-free, fit),
+      )

@@ -1,5 +1,5 @@
 -- What CART's trim makes of a directory, by its tests.
--- Assumes nothing.
+-- And that a page fits in after it.
 use mathlib.Core.Path.{_≡_, refl, sym, ap, _∙_, subst⁻¹}
 use mathlib.Core.Bool.{Bool, true, false, _||_}
 use mathlib.Core.List.{List}
@@ -12,9 +12,10 @@ use Rattle.terms.specs.Choice.{if_then_else_, ∣_∣}
 use Rattle.terms.proofs.Choice.{by-tests}
 use Rattle.figures.specs.Entry.{Entry, dropHead}
 use Rattle.figures.specs.Directory.{Directory, B1, B2, listOf, withList, cached, remembered}
-use Rattle.figures.specs.Words.{encode, nB1, nB2}
+use Rattle.figures.specs.Words.{nB1, nB2}
 use Rattle.figures.specs.Cart.{trim}
 use Rattle.laws.proofs.Cart.{cart-trims}
+use Rattle.entries.specs.Holds.{Holds}
 use Rattle.entries.specs.Stretches.{nameOf}
 use Rattle.entries.proofs.Rooms.{Fits}
 use Rattle.cart.specs.Passing.{oldestList}
@@ -57,19 +58,17 @@ module _ (d : Directory) where
   named true = refl
   named false = refl
 
-  pub trims : (w : List ℕ) (b : ℕ) → encode d ≡ w → b ≡ oldestList (getD w 3 0) (nB1 w) (nB2 w) → remembered d ≡ d .c + 1
-      → encode (withList (nameOf b) (dropHead (listOf (nameOf b) d)) d) ≡ encode (trim d)
+  pub trims : {w w′ : List ℕ} (b : ℕ) → Holds d w → b ≡ oldestList (getD w 3 0) (nB1 w) (nB2 w) → remembered d ≡ d .c + 1
+      → Holds (dropped b) w′ → Holds (trim d) w′
   unfolding trim
-  trims w b is chosen full =
+  trims {w} b is chosen full holds =
       let tests = eq-eqb (remembered d) (d .c + 1) full in
       let chosen-in-d = chosen ∙ ap (λ (l : List ℕ). oldestList (getD l 3 0) (nB1 l) (nB2 l)) (sym is) in
-      ap (λ (n : ℕ). encode (dropped n)) chosen-in-d
-      ∙ ap encode (sym (named (ltb (d .q) ∣ d .b1 ∣ || eqb ∣ d .b2 ∣ 0)))
-      ∙ ap (λ (b : Bool). encode (if b then oldest else d)) (sym tests)
+      rw (tests, named (ltb (d .q) ∣ d .b1 ∣ || eqb ∣ d .b2 ∣ 0)) (rw chosen-in-d at holds)
 
-  pub trims-not : (remembered d ≡ d .c + 1 → ⊥) → trim d ≡ d
+  pub trims-not : {w : List ℕ} → (remembered d ≡ d .c + 1 → ⊥) → Holds d w → Holds (trim d) w
   unfolding trim
-  trims-not not-full = ap (λ (b : Bool). if b then oldest else d) (ne-eqb (remembered d) (d .c + 1) not-full)
+  trims-not not-full is = rw (ne-eqb (remembered d) (d .c + 1) not-full) is
 
 -- After it there is room for one more entry.
 pub trim-fits : (d : Directory) → cached d + 1 ≡ d .c → remembered d ≤ d .c + 1 → Fits d (trim d)

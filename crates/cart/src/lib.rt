@@ -1,62 +1,50 @@
 // CART, Figure 3, in lent words: evict by its two passes and the demotion, then trim and place.
-// n_S and n_L are counted once and then kept as the figure keeps them; neither fits where the other belongs.
+// n_S and n_L are counted once and then kept as the figure keeps them.
 ghost use mathlib.Core.Path.{_≡_};
+ghost use mathlib.Core.Bool.{true, false};
 ghost use Prim.Native.Nat.{_+_, _-_, _*_, _≤_};
 ghost use lib.ListN.{length, getD};
-ghost use Rattle.figures.specs.Directory.{Directory, unit, listOf};
-ghost use Rattle.figures.specs.Words.{encode, decode, nT1, nT2, nB1, nB2};
+ghost use Rattle.terms.specs.Policies.{cart};
+ghost use Rattle.figures.specs.Entry.{Entry};
+ghost use Rattle.figures.specs.Directory.{Directory, unit};
+ghost use Rattle.figures.specs.Words.{flags, decode, nT1, nB1};
 ghost use Rattle.figures.specs.Cart as Cart;
-ghost use Rattle.figures.specs.Policy.{cartPolicy};
-ghost use Rattle.figures.specs.Request.{missed};
-ghost use Rattle.entries.specs.Stretches.{Room, nameOf};
-ghost use Rattle.entries.specs.Leaves.{Makes};
-ghost use Rattle.entries.specs.Answers.{Tells};
-ghost use Rattle.cart.specs.Passing.{Full, PassingWith, Looked, PassEnds, DemotedAs, EvictedAs, Raisable};
-ghost use Rattle.cart.specs.Passing.{Opened, PlacedAs, headFlags, oldestList, raisedTarget, loweredTarget};
+ghost use Rattle.figures.specs.Request.{cartPolicy, missed};
+ghost use Rattle.engine.specs.Shown.{Makes, Tells};
+ghost use Rattle.engine.specs.Passes.{goesOn, Passing, Looked, PassEnds, Evicts, Demotes, Places};
+ghost use Rattle.entries.specs.Holds.{Holds};
+ghost use Rattle.entries.specs.Stretches.{Room};
+ghost use Rattle.entries.specs.Flags.{Says};
+ghost use Rattle.entries.specs.Returning.{Full, Freed};
+ghost use Rattle.cart.specs.Passing.{lengthens, oldestList, HeadFlags, SecondTest, HeadDemoted, Raisable, CountsFit};
+use engine::counts;
+use engine::kinds;
+use entries::amounts;
+use entries::flags;
 use entries::header;
 use entries::lists;
-use entries::numbers;
+use entries::returning;
 use entries::search;
+use entries::targets;
 
-// n_S, the S pages of T1 and T2.
-pub struct ShortCount(pub u32);
-
-// n_L, the L pages of T1 and T2.
-pub struct LongCount(pub u32);
-
-// What the evict part keeps beside the words.
-pub struct Kept {
-    pub short: ShortCount,
-    pub long: LongCount,
-    pub moves: u32,
-}
-
-// The evicted page, the list that it came from, and what was kept.
-pub struct Evicted {
-    pub page: u32,
-    pub list: u32,
-    pub kept: Kept,
-}
-
-// The flags of the head of list i, and 0 where it is empty: as of a head that is S with its bit clear.
+// The flags of the head of list i, and where it is empty those of a head at which both passes stop.
 fn head_flags(dir: &[u32], i: usize) -> u32
     requires { ⌜ Room (now dir) ⌝ }
     requires { ⌜ i ≤ 1 ⌝ }
-    ensures { λ r. ⌜ ((d : Directory) → encode d ≡ now (dir .entry) → r ≡ headFlags (listOf (nameOf i) d)) ⌝ }
+    ensures { λ r. ⌜ HeadFlags i r (now (dir .entry)) ⌝ }
 {
-    let n = dir[header::T1_LENGTH + i];
-    if n == 0 {
-        return 0;
+    if dir[header::T1_LENGTH + i] == 0 {
+        return flags::NEW_SHORT;
     }
     let at = lists::start_of(dir, i) + 1;
     dir[at]
 }
 
 // "Raise q", lines 20 and 25.
-fn raise(dir: &mut [u32], short: ShortCount)
+fn raise(dir: &mut [u32], short: counts::ShortCount)
     requires { ⌜ Room (now dir) ⌝ }
     requires { ⌜ Raisable (now dir) (short .0) ⌝ }
-    ensures { λ _. ⌜ Makes (Cart.raise (short .0)) (now (dir .entry)) (now (dir .exit)) ⌝ }
+    ensures { λ _. ⌜ Makes Holds (Cart.raise (short .0)) (now (dir .entry)) (now (dir .exit)) ⌝ }
 {
     let c = dir[header::SIZE];
     let n1 = dir[header::T1_LENGTH];
@@ -64,147 +52,177 @@ fn raise(dir: &mut [u32], short: ShortCount)
     let k2 = dir[header::B2_LENGTH];
     let short = short.0;
     if c <= n2 + k2 + n1 - short {
-        dir[header::Q] = numbers::least(dir[header::Q] + 1, 2 * c - n1);
+        dir[header::Q] = amounts::least(dir[header::Q] + 1, 2 * c - n1);
     }
 }
 
 // Line 33: T1 has lost a page to T2.
 fn lower(dir: &mut [u32])
     requires { ⌜ (8 ≤ length (now dir)) × (nT1 (now dir) ≤ getD (now dir) 1 0) ⌝ }
-    ensures { λ _. ⌜ Makes Cart.lower (now (dir .entry)) (now (dir .exit)) ⌝ }
+    ensures { λ _. ⌜ Makes Holds Cart.lower (now (dir .entry)) (now (dir .exit)) ⌝ }
 {
     let q = dir[header::Q];
     let less = if q == 0 { 0 } else { q - 1 };
-    dir[header::Q] = numbers::greatest(less, dir[header::SIZE] - dir[header::T1_LENGTH]);
+    dir[header::Q] = amounts::greatest(less, dir[header::SIZE] - dir[header::T1_LENGTH]);
 }
 
 // Lines 23 to 26, the first pass.
-fn first_pass(dir: &mut [u32], kept: Kept) -> Kept
+fn first_pass(dir: &mut [u32], kept: counts::Kept) -> counts::Kept
     requires { ⌜ Room (now dir) ⌝ }
-    requires { ⌜ PassingWith (now dir) kept ⌝ }
-    ensures { λ r. ⌜ PassingWith (now (dir .exit)) r × PassEnds Cart.firstLook (now (dir .entry)) kept (now (dir .exit)) r ⌝ }
+    requires { ⌜ Passing Holds (now dir) kept ⌝ }
+    ensures { λ r. ⌜ Passing Holds (now (dir .exit)) r × PassEnds Holds Cart.firstLook (now (dir .entry)) kept (now (dir .exit)) r ⌝ }
 {
-    let short = kept.short;
-    let long = kept.long;
-    let mut moves = kept.moves;
+    let mut now = kept;
     let mut f = head_flags(dir, lists::T2);
-    while f % 2 == 1 {
+    while flags::bit(f) {
+        let short = now.short;
+        let long = now.long;
         lists::t2_head_to_t1(dir);
         raise(dir, short);
-        moves += 1;
+        let hand = engine::Hand {
+            moves: now.hand.moves + 1,
+            cleared: now.hand.cleared + 1,
+        };
+        now = counts::Kept { short, long, hand };
         f = head_flags(dir, lists::T2);
     }
-    Kept { short, long, moves }
+    now
 }
 
-// Line 30's test.
-fn becomes_long(dir: &[u32]) -> bool
+// Line 30's test, of T1's head, whose flags are f: it is S and T1 is long enough.
+fn becomes_long(dir: &[u32], f: u32) -> bool
     requires { ⌜ (8 ≤ length (now dir)) × (getD (now dir) 2 0 ≤ unit * 1024) × (nT1 (now dir) ≤ 2048) × (nB1 (now dir) ≤ 2048) ⌝ }
-    ensures { λ r. ⌜ ((d : Directory) → encode d ≡ now (dir .entry) → r ≡ Cart.becomesLong d) ⌝ }
+    ensures { λ r. ⌜ ((d : Directory) (e : Entry) → Holds d (now (dir .entry)) → f ≡ flags e → r ≡ lengthens e d) ⌝ }
 {
+    if flags::long(f) {
+        return false;
+    }
     let p = dir[header::P] + entries::UNIT;
-    numbers::least(p, entries::UNIT * dir[header::B1_LENGTH])
+    amounts::least(p, entries::UNIT * dir[header::B1_LENGTH])
         <= entries::UNIT * dir[header::T1_LENGTH]
 }
 
 // Lines 28 to 33: T1's head, whose flags are f and which is L or has its bit set.
-fn turn(dir: &mut [u32], f: u32, kept: Kept) -> Kept
+fn turn(dir: &mut [u32], f: u32, kept: counts::Kept) -> counts::Kept
     requires { ⌜ Room (now dir) ⌝ }
-    requires { ⌜ PassingWith (now dir) kept ⌝ }
-    requires { ⌜ (f ≡ headFlags (decode (now dir) .t1)) × (1 ≤ f) ⌝ }
-    ensures { λ r. ⌜ Looked Cart.secondLook (now (dir .entry)) (kept .short .0) (kept .long .0) (kept .moves) (now (dir .exit)) (r .short .0) (r .long .0) (r .moves) ⌝ }
+    requires { ⌜ Passing Holds (now dir) kept ⌝ }
+    requires { ⌜ HeadFlags 0 f (now dir) × SecondTest true (now dir) ⌝ }
+    ensures { λ r. ⌜ Looked Holds Cart.secondLook (now (dir .entry)) kept (now (dir .exit)) r ⌝ }
 {
     let short = kept.short;
     let long = kept.long;
-    let moves = kept.moves + 1;
-    if f == 1 {
-        if becomes_long(dir) {
-            lists::move_head(dir, lists::T1, lists::T1, 2);
-            return Kept {
-                short: ShortCount(short.0 - 1),
-                long: LongCount(long.0 + 1),
-                moves,
+    let moves = kept.hand.moves + 1;
+    let cleared = kept.hand.cleared;
+    let plain = flags::cleared(f);
+    if flags::bit(f) {
+        let cleared = cleared + 1;
+        let hand = engine::Hand { moves, cleared };
+        if becomes_long(dir, f) {
+            lists::move_head(dir, lists::T1, lists::T1, flags::made_long(plain));
+            return counts::Kept {
+                short: counts::ShortCount(short.0 - 1),
+                long: counts::LongCount(long.0 + 1),
+                hand,
             };
         }
+        lists::move_head(dir, lists::T1, lists::T1, plain);
+        return counts::Kept { short, long, hand };
     }
-    if f % 2 == 1 {
-        lists::move_head(dir, lists::T1, lists::T1, f - 1);
-    } else {
-        lists::move_head(dir, lists::T1, lists::T2, f);
-        lower(dir);
-    }
-    Kept { short, long, moves }
+    lists::move_head(dir, lists::T1, lists::T2, plain);
+    lower(dir);
+    let hand = engine::Hand { moves, cleared };
+    counts::Kept { short, long, hand }
+}
+
+// Line 27's test, of a head's flags.
+fn goes_on(f: u32) -> bool
+    ensures { λ r. ⌜ Says goesOn f r ⌝ }
+{
+    flags::bit(f) || flags::long(f)
 }
 
 // Lines 27 to 35, the second pass.
-fn second_pass(dir: &mut [u32], kept: Kept) -> Kept
+fn second_pass(dir: &mut [u32], kept: counts::Kept) -> counts::Kept
     requires { ⌜ Room (now dir) ⌝ }
-    requires { ⌜ PassingWith (now dir) kept ⌝ }
-    ensures { λ r. ⌜ PassingWith (now (dir .exit)) r × (headFlags (decode (now (dir .exit)) .t1) ≡ 0) × PassEnds Cart.secondLook (now (dir .entry)) kept (now (dir .exit)) r ⌝ }
+    requires { ⌜ Passing Holds (now dir) kept ⌝ }
+    ensures { λ r. ⌜ Passing Holds (now (dir .exit)) r × SecondTest false (now (dir .exit)) × PassEnds Holds Cart.secondLook (now (dir .entry)) kept (now (dir .exit)) r ⌝ }
 {
     let mut now = kept;
     let mut f = head_flags(dir, lists::T1);
-    while f != 0 {
+    while goes_on(f) {
         now = turn(dir, f, now);
         f = head_flags(dir, lists::T1);
     }
     now
 }
 
-// Lines 36 to 40, the demotion.
-fn demote(dir: &mut [u32], kept: Kept) -> Evicted
+// The head of list i, T1 or T2, is demoted to its history; its page.
+fn demote_head(dir: &mut [u32], i: usize) -> u32
     requires { ⌜ Room (now dir) ⌝ }
-    requires { ⌜ PassingWith (now dir) kept ⌝ }
-    requires { ⌜ headFlags (decode (now dir) .t1) ≡ 0 ⌝ }
-    ensures { λ r. ⌜ DemotedAs (now (dir .entry)) kept (now (dir .exit)) r ⌝ }
+    requires { ⌜ (i ≤ 1) × (1 ≤ getD (now dir) (4 + i) 0) ⌝ }
+    ensures { λ r. ⌜ HeadDemoted i r (now (dir .entry)) (now (dir .exit)) ⌝ }
+{
+    let at = lists::start_of(dir, i);
+    let page = dir[at];
+    let f = flags::demoted(dir[at + 1]);
+    lists::move_head(dir, i, i + 2, f);
+    page
+}
+
+// Lines 36 to 40, the demotion.
+fn demote(dir: &mut [u32], kept: counts::Kept) -> counts::Evicted
+    requires { ⌜ Room (now dir) ⌝ }
+    requires { ⌜ Passing Holds (now dir) kept ⌝ }
+    requires { ⌜ SecondTest false (now dir) ⌝ }
+    ensures { λ r. ⌜ Demotes Holds (now (dir .entry)) kept (now (dir .exit)) r ⌝ }
 {
     let short = kept.short;
     let long = kept.long;
-    let moves = kept.moves + 1;
-    let p = numbers::greatest(entries::UNIT, dir[header::P]);
-    let n = entries::UNIT * dir[header::T1_LENGTH];
-    if p <= n {
-        let page = dir[header::ENTRIES];
-        lists::move_head(dir, lists::T1, lists::B1, 0);
-        let kept = Kept {
-            short: ShortCount(short.0 - 1),
-            long,
-            moves,
-        };
-        Evicted {
+    let hand = engine::Hand {
+        moves: kept.hand.moves + 1,
+        cleared: kept.hand.cleared,
+    };
+    if targets::t1_at_target(dir) {
+        let page = demote_head(dir, lists::T1);
+        let out = engine::Evicted {
             page,
             list: 1,
-            kept,
+            hand,
+        };
+        counts::Evicted {
+            out,
+            short: counts::ShortCount(short.0 - 1),
+            long,
         }
     } else {
-        let at = lists::start_of(dir, lists::T2);
-        let page = dir[at];
-        let f = dir[at + 1];
-        lists::move_head(dir, lists::T2, lists::B2, f);
-        let kept = Kept {
-            short,
-            long: LongCount(long.0 - 1),
-            moves,
-        };
-        Evicted {
+        let page = demote_head(dir, lists::T2);
+        let out = engine::Evicted {
             page,
             list: 2,
-            kept,
+            hand,
+        };
+        counts::Evicted {
+            out,
+            short,
+            long: counts::LongCount(long.0 - 1),
         }
     }
 }
 
 // Lines 23 to 40.
-pub fn evict(dir: &mut [u32]) -> Evicted
-    requires { ⌜ Full (now dir) ⌝ }
-    ensures { λ r. ⌜ EvictedAs (Cart.evict (decode (now (dir .entry)))) (now (dir .exit)) r ⌝ }
+pub fn evict(dir: &mut [u32]) -> counts::Evicted
+    requires { ⌜ Full cart (now dir) ⌝ }
+    ensures { λ r. ⌜ Evicts Holds (Cart.evict (decode (now (dir .entry)))) r (now (dir .exit)) ⌝ }
 {
     let n = dir[header::T1_LENGTH] + dir[header::T2_LENGTH];
-    let longs = search::count(dir, header::ENTRIES, lists::wide(n), 2);
-    let kept = Kept {
-        short: ShortCount(n - longs),
-        long: LongCount(longs),
-        moves: 0,
+    let longs = search::count(dir, header::ENTRIES, lists::wide(n), flags::LONG);
+    let kept = counts::Kept {
+        short: counts::ShortCount(n - longs),
+        long: counts::LongCount(longs),
+        hand: engine::Hand {
+            moves: 0,
+            cleared: 0,
+        },
     };
     let kept = first_pass(dir, kept);
     let kept = second_pass(dir, kept);
@@ -223,9 +241,8 @@ fn oldest(q: u32, k1: u32, k2: u32) -> usize
 
 // Lines 6 to 10, for a page in neither history.
 fn trim(dir: &mut [u32])
-    requires { ⌜ Room (now dir) ⌝ }
-    requires { ⌜ (getD (now dir) 1 0 ≤ 1024) × (nT1 (now dir) + nT2 (now dir) + 1 ≤ getD (now dir) 1 0) × (nB1 (now dir) + nB2 (now dir) ≤ getD (now dir) 1 0 + 1) ⌝ }
-    ensures { λ _. ⌜ Makes Cart.trim (now (dir .entry)) (now (dir .exit)) ⌝ }
+    requires { ⌜ Freed (now dir) ⌝ }
+    ensures { λ _. ⌜ Makes Holds Cart.trim (now (dir .entry)) (now (dir .exit)) ⌝ }
 {
     let c = dir[header::SIZE];
     let k1 = dir[header::B1_LENGTH];
@@ -236,71 +253,44 @@ fn trim(dir: &mut [u32])
     }
 }
 
-// Line 15: the target that a page found in B1 asks for.
-fn raised_target(dir: &[u32], short: ShortCount) -> u32
-    requires { ⌜ (8 ≤ length (now dir)) × (1 ≤ nB1 (now dir)) × (short .0 ≤ 1024) × (getD (now dir) 1 0 ≤ 1024) × (getD (now dir) 2 0 ≤ unit * 1024) ⌝ }
-    ensures { λ r. ⌜ r ≡ raisedTarget (short .0) (now (dir .entry)) ⌝ }
-{
-    let step = numbers::quotient(entries::UNIT * short.0, dir[header::B1_LENGTH]);
-    numbers::least(
-        dir[header::P] + numbers::greatest(entries::UNIT, step),
-        entries::UNIT * dir[header::SIZE],
-    )
-}
-
-// Line 18: the target that a page found in B2 asks for.
-fn lowered_target(dir: &[u32], long: LongCount) -> u32
-    requires { ⌜ (8 ≤ length (now dir)) × (1 ≤ nB2 (now dir)) × (long .0 ≤ 1024) ⌝ }
-    ensures { λ r. ⌜ r ≡ loweredTarget (long .0) (now (dir .entry)) ⌝ }
-{
-    let step = numbers::quotient(entries::UNIT * long.0, dir[header::B2_LENGTH]);
-    let step = numbers::greatest(entries::UNIT, step);
-    let p = dir[header::P];
-    if step < p { p - step } else { 0 }
-}
-
 // Lines 6 to 20: the page from B1, from B2, or new; the answer's kind.
-fn place(dir: &mut [u32], page: u32, short: ShortCount, long: LongCount) -> u32
-    requires { ⌜ Room (now dir) ⌝ }
-    requires { ⌜ Opened (now dir) (short .0) (long .0) ⌝ }
-    ensures { λ r. ⌜ PlacedAs page (short .0) (long .0) (now (dir .entry)) r (now (dir .exit)) ⌝ }
+fn place(dir: &mut [u32], page: u32, short: counts::ShortCount, long: counts::LongCount) -> u32
+    requires { ⌜ Freed (now dir) ⌝ }
+    requires { ⌜ CountsFit (now dir) short long ⌝ }
+    ensures { λ r. ⌜ Places Holds page short long (now (dir .entry)) r (now (dir .exit)) ⌝ }
 {
-    let k1 = lists::wide(dir[header::B1_LENGTH]);
-    let k2 = lists::wide(dir[header::B2_LENGTH]);
-    let b1 = lists::start_of(dir, lists::B1);
-    let at = search::find(dir, b1, k1, page);
-    if at < k1 {
-        let p = raised_target(dir, short);
-        lists::come_back(dir, lists::B1, at, lists::T1, page, 2);
-        dir[header::P] = p;
-        return 3;
-    }
-    let b2 = lists::start_of(dir, lists::B2);
-    let at = search::find(dir, b2, k2, page);
-    if at < k2 {
-        let p = lowered_target(dir, long);
-        lists::come_back(dir, lists::B2, at, lists::T1, page, 2);
-        dir[header::P] = p;
+    let to = returning::Return {
+        b1: short.0,
+        b2: long.0,
+        tail: lists::T1,
+        flags: flags::NEW_LONG,
+    };
+    let kind = returning::come_back(dir, page, to);
+    if kind == kinds::FROM_B2 {
         raise(dir, short);
-        return 4;
+        return kind;
     }
-    trim(dir);
-    lists::place_new(dir, page);
-    2
+    if kind == kinds::NEW {
+        trim(dir);
+        lists::place_new(dir, page);
+    }
+    kind
 }
 
 // A miss in a full cache.
-pub fn miss(dir: &mut [u32], page: u32) -> entries::Served
-    requires { ⌜ Full (now dir) ⌝ }
-    ensures { λ r. ⌜ Tells (missed cartPolicy page (Cart.evict (decode (now (dir .entry))))) (r .kind) (r .page) (r .list) (r .moves) (now (dir .exit)) ⌝ }
+pub fn miss(dir: &mut [u32], page: u32) -> engine::Served
+    requires { ⌜ Full cart (now dir) ⌝ }
+    ensures { λ r. ⌜ Tells Holds (missed cartPolicy page (Cart.evict (decode (now (dir .entry))))) r (now (dir .exit)) ⌝ }
 {
-    let out = evict(dir);
-    let kept = out.kept;
-    let kind = place(dir, page, kept.short, kept.long);
-    entries::Served {
+    let e = evict(dir);
+    let short = e.short;
+    let long = e.long;
+    let kind = place(dir, page, short, long);
+    engine::Served {
         kind,
-        page: out.page,
-        list: out.list,
-        moves: kept.moves,
+        page: e.out.page,
+        list: e.out.list,
+        moves: e.out.hand.moves,
+        cleared: e.out.hand.cleared,
     }
 }

@@ -3,15 +3,24 @@
 use mathlib.Core.Path.{_≡_, refl}
 use mathlib.Core.Bool.{true, false}
 use mathlib.Core.List.{List, _∷_}
-use Prim.Native.Nat.{ℕ, _+_, _-_}
+use Prim.Native.Nat.{ℕ, _+_, _-_, _*_, _≤_, max}
 use native.Mathlib.Omega.{arith}
+use borrow.Author.Tests.{leb-true, leb-false}
+use Rattle.terms.specs.Choice.{∣_∣}
 use Rattle.figures.specs.Entry.{Entry}
-use Rattle.figures.specs.Directory.{Directory, T1, T2, B1, B2, withList, toTail, t1AtTarget}
+use Rattle.figures.specs.Directory.{Directory, unit, T1, T2, B1, B2, withList, toTail, t1AtTarget}
 use Rattle.figures.specs.Hand.{Hand, withCounts, demote}
 use Rattle.figures.specs.Cart.{demotion}
 use Rattle.engine.specs.declared.counts.Kept.{Kept}
 use Rattle.engine.specs.declared.counts.Evicted.{Evicted}
-use Rattle.engine.specs.Passes.{ShowsHand, Evicts}
+use Rattle.engine.specs.Passes.{Accounts, ShowsHand, Evicts}
+
+-- The chosen list has a head: T1 at its target is not empty, and T1 under it is not the whole cache.
+pub at-target-some : (d : Directory) → t1AtTarget d ≡ true → 1 ≤ ∣ d .t1 ∣
+at-target-some d test = omega (arith, leb-true (max unit (d .p)) (unit * ∣ d .t1 ∣) test)
+
+pub under-target-some : {d : Directory} {k : Kept} → Accounts d k → t1AtTarget d ≡ false → 1 ≤ ∣ d .t2 ∣
+under-target-some {d} a test = omega (arith, a, leb-false (max unit (d .p)) (unit * ∣ d .t1 ∣) test)
 
 -- What is answered where page is evicted from a list, whose number is list.
 abbrev pub evictedAs : ℕ → ℕ → ℕ → ℕ → Kept → Evicted

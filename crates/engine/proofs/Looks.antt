@@ -1,14 +1,14 @@
 -- What each look of CART's passes makes of any hand that memory shows, from what is known of the head's bit and filter.
 -- Over what memory shows.
-use mathlib.Core.Path.{_≡_, refl, ap, _∙_}
-use mathlib.Core.Bool.{Bool, true, false, false≢true}
+use mathlib.Core.Path.{_≡_, refl, sym, ap, _∙_}
+use mathlib.Core.Bool.{Bool, true, false, _||_, false≢true}
 use mathlib.Core.List.{List, [], _∷_}
 use Prim.Native.Nat.{ℕ, _+_, _-_, _*_, _≤_, min}
 use native.Mathlib.Omega.{arith}
 use lib.Dec.{leb}
 use Rattle.terms.specs.Choice.{if_then_else_, ∣_∣}
-use Rattle.figures.specs.Entry.{Entry, Filter, S, L, cleared, madeLong, shortOf, longOf, short, total, dropHead}
-use Rattle.figures.specs.Directory.{Directory, unit, Name, T1, T2, listOf, withList, toTail}
+use Rattle.figures.specs.Entry.{Entry, Filter, S, L, cleared, madeLong, isLong, shortOf, longOf, short, total, dropHead}
+use Rattle.figures.specs.Directory.{Directory, unit, T1, T2}
 use Rattle.figures.specs.Hand.{Hand, withDir, withCounts, turn, Look, again, stop}
 use Rattle.figures.specs.Cart.{raise, lower, becomesLong, passT1, settle, ifLong, lookT1, lookT2, firstLook, secondLook}
 use Rattle.laws.proofs.Lists.{length-tail}
@@ -16,21 +16,29 @@ use Rattle.engine.specs.declared.counts.ShortCount.{ShortCount}
 use Rattle.engine.specs.declared.counts.LongCount.{LongCount}
 use Rattle.engine.specs.declared.counts.Kept.{Kept}
 use Rattle.engine.specs.Shown.{Makes}
-use Rattle.engine.specs.Passes.{frontOf, Accounts, Keeps, Passing, ShowsHand, Looked}
-use Rattle.engine.proofs.Accounts.{moved, set-bits, clear-bits, t2-to-t1, t1-round, t1-to-t2, raise-keeps, lower-keeps}
+use Rattle.engine.specs.Passes.{frontOf, headTo, goesOn, Accounts, Keeps, Passing, ShowsHand, Looked}
+use Rattle.engine.proofs.Accounts.{is-long, is-short, afterMove, set-bits, clear-bits, t2-to-t1, t1-round, t1-to-t2, raise-keeps, lower-keeps}
 
--- The head of list i, as f makes it, becomes the tail of list j.
-abbrev pub headTo : Name → Name → (Entry → Entry) → Directory → Directory
-headTo i j f d = toTail j (f (frontOf (listOf i d))) (withList i (dropHead (listOf i d)) d)
+-- A list that is not empty, or whose head goes on, has one.
+pub some-front : (l : List Entry) → 1 ≤ ∣ l ∣ → l ≡ frontOf l ∷ dropHead l
+some-front [] some = absurd (omega arith)
+some-front (e ∷ es) some = refl
 
--- A list whose head goes on has one.
 pub set-front : (l : List Entry) → frontOf l .bit ≡ true → l ≡ frontOf l ∷ dropHead l
 set-front [] set = absurd (false≢true set)
 set-front (e ∷ es) set = refl
 
-pub long-front : (l : List Entry) → frontOf l .filter ≡ L → l ≡ frontOf l ∷ dropHead l
-long-front [] long-is = absurd (omega (arith, ap longOf long-is))
-long-front (e ∷ es) long-is = refl
+pub goes-front : (l : List Entry) → goesOn (frontOf l) ≡ true → l ≡ frontOf l ∷ dropHead l
+goes-front [] goes = absurd (false≢true goes)
+goes-front (e ∷ es) goes = refl
+
+-- A head that does not go on is S with its bit clear.
+pub stands : (e : Entry) → goesOn e ≡ false → (e .bit ≡ false) × (isLong (e .filter) ≡ false)
+stands e = go (e .bit)
+  where
+    go : (b : Bool) → b || isLong (e .filter) ≡ false → (b ≡ false) × (isLong (e .filter) ≡ false)
+    go true stops = absurd (false≢true (sym stops))
+    go false stops = (refl, stops)
 
 -- The looks, by the head e.
 module _ (h : Hand) (e : Entry) (es : List Entry) where
@@ -54,11 +62,11 @@ module _ (h : Hand) (e : Entry) (es : List Entry) where
       ap (λ (l : List Entry). lookT1 l h) front
       ∙ ap (λ (b : Bool). if b then again (passT1 (e .filter) e es h) else ifLong (e .filter) (again (settle e es h)) (stop h)) set
 
-  rounds : h .dir .t1 ≡ e ∷ es → e .bit ≡ true → (e .filter ≡ S → becomesLong (h .dir) ≡ false)
+  rounds : h .dir .t1 ≡ e ∷ es → e .bit ≡ true → (isLong (e .filter) ≡ false → becomesLong (h .dir) ≡ false)
       → secondLook h ≡ again (turn T1 T1 cleared e es h)
   rounds front set stays = passes front set ∙ ap again (go (e .filter) stays)
     where
-      go : (f : Filter) → (f ≡ S → becomesLong (h .dir) ≡ false) → passT1 f e es h ≡ turn T1 T1 cleared e es h
+      go : (f : Filter) → (isLong f ≡ false → becomesLong (h .dir) ≡ false) → passT1 f e es h ≡ turn T1 T1 cleared e es h
       go S stays = rw (test-after-turn front ∙ stays refl)
       go L stays = refl
 
@@ -94,11 +102,11 @@ module _ {W : Type 0} {Shows : Directory → W → Type 0} {w : W} {k : Kept} (p
     list = 0;
   }
 
-  moved-by : {w₁ : W} {look : Hand → Look} {change : Directory → Directory} (nS : ShortCount) (nL : LongCount) (n : ℕ)
-      → ((d : Directory) → Accounts d (moved nS nL n k) → Accounts (change d) (moved nS nL n k))
-      → ((h : Hand) → ShowsHand Shows h w k → Step Shows look change k w₁ (moved nS nL n k) h)
-      → Moved Shows look change w k w₁ (moved nS nL n k)
-  moved-by {change = change} nS nL n keeps steps =
+  moved-by : {w₁ : W} {look : Hand → Look} {change : Directory → Directory} (nS : ShortCount) (nL : LongCount) (bits : ℕ)
+      → ((d : Directory) → Accounts d (afterMove nS nL bits k) → Accounts (change d) (afterMove nS nL bits k))
+      → ((h : Hand) → ShowsHand Shows h w k → Step Shows look change k w₁ (afterMove nS nL bits k) h)
+      → Moved Shows look change w k w₁ (afterMove nS nL bits k)
+  moved-by {change = change} nS nL bits keeps steps =
       let shown : ShowsHand Shows shown-hand w k =
       record { shown = p .shown; keeps = record { short-is = refl; long-is = refl; counts = record { moves-is = refl; cleared-is = refl } } } in
       let s = steps shown-hand shown in
@@ -119,9 +127,9 @@ module _ {W : Type 0} {Shows : Directory → W → Type 0} {w : W} {k : Kept} (p
       }
 
   pub first-looks : {w₁ : W} → ((d : Directory) → Shows d w → frontOf (d .t2) .bit ≡ true) → Makes Shows (headTo T2 T1 cleared) w w₁
-      → Moved Shows firstLook (raise (k .short .0)) w k w₁ (moved (k .short) (k .long) 1 k)
+      → Moved Shows firstLook (raise (k .short .0)) w k w₁ (afterMove (k .short) (k .long) (k .hand .cleared + 1) k)
   first-looks set makes =
-      moved-by (k .short) (k .long) 1 raise-keeps
+      moved-by (k .short) (k .long) (k .hand .cleared + 1) raise-keeps
       (λ h holds.
       let l = h .dir .t2 in
       let is-set = set (h .dir) (holds .shown) in
@@ -135,28 +143,31 @@ module _ {W : Type 0} {Shows : Directory → W → Type 0} {w : W} {k : Kept} (p
       })
 
   -- T1's head, its bit clear and its filter L.
-  pub look-settles : {w₁ : W} → ((d : Directory) → Shows d w → (frontOf (d .t1) .bit ≡ false) × (frontOf (d .t1) .filter ≡ L))
-      → Makes Shows (headTo T1 T2 cleared) w w₁ → Moved Shows secondLook lower w k w₁ (moved (k .short) (k .long) 0 k)
-  look-settles settled makes =
-      moved-by (k .short) (k .long) 0 lower-keeps
+  pub look-settles : {w₁ : W} → ((d : Directory) → Shows d w → goesOn (frontOf (d .t1)) ≡ true)
+      → ((d : Directory) → Shows d w → frontOf (d .t1) .bit ≡ false)
+      → Makes Shows (headTo T1 T2 cleared) w w₁ → Moved Shows secondLook lower w k w₁ (afterMove (k .short) (k .long) (k .hand .cleared) k)
+  look-settles goes clear makes =
+      moved-by (k .short) (k .long) (k .hand .cleared) lower-keeps
       (λ h holds.
       let l = h .dir .t1 in
-      let is = settled (h .dir) (holds .shown) in
-      let front = long-front l (is .1) in
+      let going = goes (h .dir) (holds .shown) in
+      let is-clear = clear (h .dir) (holds .shown) in
+      let long-is = is-long (frontOf l .filter) (rw is-clear at going) in
+      let front = goes-front l going in
       record {
         at = turn T1 T2 cleared (frontOf l) (dropHead l) h;
-        turns = settles h (frontOf l) (dropHead l) front (is .0) (is .1);
+        turns = settles h (frontOf l) (dropHead l) front is-clear long-is;
         shown = makes (h .dir) (holds .shown);
-        keeps = omega (arith, holds .keeps, clear-bits (frontOf l) (is .0));
-        accounts = t1-to-t2 (h .dir) (frontOf l) (dropHead l) front (is .0) (is .1);
+        keeps = omega (arith, holds .keeps, clear-bits (frontOf l) is-clear);
+        accounts = t1-to-t2 (h .dir) (frontOf l) (dropHead l) front is-clear long-is;
       })
 
   -- T1's head, its bit set: it stays S or L, or becomes L.
   pub look-goes-round : {w₁ : W} → ((d : Directory) → Shows d w → frontOf (d .t1) .bit ≡ true)
-      → ((d : Directory) → Shows d w → frontOf (d .t1) .filter ≡ S → becomesLong d ≡ false)
-      → Makes Shows (headTo T1 T1 cleared) w w₁ → Moved Shows secondLook (λ d. d) w k w₁ (moved (k .short) (k .long) 1 k)
+      → ((d : Directory) → Shows d w → isLong (frontOf (d .t1) .filter) ≡ false → becomesLong d ≡ false)
+      → Makes Shows (headTo T1 T1 cleared) w w₁ → Moved Shows secondLook (λ d. d) w k w₁ (afterMove (k .short) (k .long) (k .hand .cleared + 1) k)
   look-goes-round set stays makes =
-      moved-by (k .short) (k .long) 1 (λ d a. a)
+      moved-by (k .short) (k .long) (k .hand .cleared + 1) (λ d a. a)
       (λ h holds.
       let l = h .dir .t1 in
       let is-set = set (h .dir) (holds .shown) in
@@ -169,26 +180,27 @@ module _ {W : Type 0} {Shows : Directory → W → Type 0} {w : W} {k : Kept} (p
         accounts = t1-round (h .dir) (frontOf l) (dropHead l) (cleared (frontOf l)) (k .short) (k .long) front is-set refl refl refl;
       })
 
-  pub look-makes-long : {w₁ : W} → ((d : Directory) → Shows d w → (frontOf (d .t1) .bit ≡ true) × (frontOf (d .t1) .filter ≡ S))
+  pub look-makes-long : {w₁ : W} → ((d : Directory) → Shows d w → (frontOf (d .t1) .bit ≡ true) × (isLong (frontOf (d .t1) .filter) ≡ false))
       → ((d : Directory) → Shows d w → becomesLong d ≡ true) → Makes Shows (headTo T1 T1 (λ e. madeLong (cleared e))) w w₁
-      → Moved Shows secondLook (λ d. d) w k w₁ (moved (record { 0 = k .short .0 - 1 }) (record { 0 = k .long .0 + 1 }) 1 k)
+      → Moved Shows secondLook (λ d. d) w k w₁ (afterMove (record { 0 = k .short .0 - 1 }) (record { 0 = k .long .0 + 1 }) (k .hand .cleared + 1) k)
   look-makes-long short-set long makes =
       let nS : ShortCount = record { 0 = k .short .0 - 1 } in
       let nL : LongCount = record { 0 = k .long .0 + 1 } in
-      moved-by nS nL 1 (λ d a. a)
+      moved-by nS nL (k .hand .cleared + 1) (λ d a. a)
       (λ h holds.
       let l = h .dir .t1 in
       let e = frontOf l in
       let is = short-set (h .dir) (holds .shown) in
+      let short-is = is-short (e .filter) (is .1) in
       let front = set-front l (is .0) in
       record {
         at = withCounts (h .nS - 1) (h .nL + 1) (turn T1 T1 (λ e. madeLong (cleared e)) e (dropHead l) h);
-        turns = lengthens h e (dropHead l) front (is .0) (is .1) (long (h .dir) (holds .shown));
+        turns = lengthens h e (dropHead l) front (is .0) short-is (long (h .dir) (holds .shown));
         shown = makes (h .dir) (holds .shown);
         keeps = omega (arith, holds .keeps, set-bits e (is .0));
         accounts = λ a.
             t1-round (h .dir) e (dropHead l) (madeLong (cleared e)) nS nL front (is .0) refl
-            (omega (arith, ap (total short) front, ap shortOf (is .1), a .shorts)) (omega (arith, ap longOf (is .1))) a;
+            (omega (arith, ap (total short) front, ap shortOf short-is, a .shorts)) (omega (arith, ap longOf short-is)) a;
       })
 
 -- Where the passes stop.
@@ -197,12 +209,14 @@ stops-t2 : (l : List Entry) (h : Hand) → frontOf l .bit ≡ false → lookT2 l
 stops-t2 [] h clear = refl
 stops-t2 (e ∷ es) h clear = rw clear
 
-stops-t1 : (l : List Entry) (h : Hand) → frontOf l .bit ≡ false → frontOf l .filter ≡ S → lookT1 l h ≡ stop h
-stops-t1 [] h clear short-is = refl
-stops-t1 (e ∷ es) h clear short-is = rw (clear, short-is)
+stops-t1 : (l : List Entry) (h : Hand) → goesOn (frontOf l) ≡ false → lookT1 l h ≡ stop h
+stops-t1 [] h stops = refl
+stops-t1 (e ∷ es) h stops =
+    let neither = stands e stops in
+    rw (neither .0, is-short (e .filter) (neither .1))
 
 pub first-stops : (h : Hand) → frontOf (h .dir .t2) .bit ≡ false → firstLook h ≡ stop h
 first-stops h clear = stops-t2 (h .dir .t2) h clear
 
-pub second-stops : (h : Hand) → frontOf (h .dir .t1) .bit ≡ false → frontOf (h .dir .t1) .filter ≡ S → secondLook h ≡ stop h
-second-stops h clear short-is = stops-t1 (h .dir .t1) h clear short-is
+pub second-stops : (h : Hand) → goesOn (frontOf (h .dir .t1)) ≡ false → secondLook h ≡ stop h
+second-stops h stops = stops-t1 (h .dir .t1) h stops

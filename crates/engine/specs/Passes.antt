@@ -1,10 +1,11 @@
 -- CART's two passes over lent memory w, and k, what is kept beside it. How memory shows a directory is a parameter.
 -- Any hand that memory and counts show may be meant: a promise is one about each of them.
 use mathlib.Core.Path.{_≡_}
+use mathlib.Core.Bool.{Bool, _||_}
 use mathlib.Core.List.{List, [], _∷_}
 use Prim.Native.Nat.{ℕ, _+_, _*_, _≤_}
-use Rattle.figures.specs.Entry.{Entry, newShort, bits, short, long, total}
-use Rattle.figures.specs.Directory.{Directory, unit, cached, remembered, inCache}
+use Rattle.figures.specs.Entry.{Entry, newShort, isLong, bits, short, long, total, dropHead}
+use Rattle.figures.specs.Directory.{Directory, Name, unit, listOf, withList, toTail, cached, remembered, inCache}
 use Rattle.figures.specs.Hand.{Hand, Look, again}
 use Rattle.figures.specs.Cart.{cost, demotion}
 use Rattle.figures.specs.Request.{cartPolicy}
@@ -18,6 +19,14 @@ use Rattle.engine.specs.Shown.{Counts, Ended, EvictedAs, PlacedAs}
 abbrev pub frontOf : List Entry → Entry
 frontOf [] = newShort 0
 frontOf (e ∷ es) = e
+
+-- The head of list i, as f makes it, becomes the tail of list j.
+abbrev pub headTo : Name → Name → (Entry → Entry) → Directory → Directory
+headTo i j f d = toTail j (f (frontOf (listOf i d))) (withList i (dropHead (listOf i d)) d)
+
+-- Line 27's test of the head: it is L or has its bit set.
+abbrev pub goesOn : Entry → Bool
+goesOn e = e .bit || isLong (e .filter)
 
 -- Of a full directory: the counts are those of T1 and T2, and what the passes may still cost is bounded.
 pub record Accounts (d : Directory) (k : Kept) : Type 0 where

@@ -1,100 +1,79 @@
--- The test is the definition's. T1's head is S, since its flags are 0, and T2's is L; T2 has one if T1 is under target: the cache is full.
+-- The test is the definition's. T1's head is S where the passes stop, and T2's is L; the chosen list has a head: the cache is full.
 use borrow.Author.Needs.{needs}
+use mathlib.Core.Path.{_≡_, sym, _∙_}
 use native.Mathlib.Omega.{arith}
-use Rattle.cart.proofs.Accounts.{short-counted, long-counted}
-use Rattle.cart.proofs.Demoting.{demotes-t1, demotes-t2}
+use Rattle.figures.specs.Entry.{dropHead}
+use Rattle.figures.specs.Directory.{Directory, t1AtTarget}
+use Rattle.engine.specs.Passes.{frontOf}
+use Rattle.engine.proofs.Accounts.{short-counted, long-counted}
+use Rattle.engine.proofs.Looks.{some-front, stands}
+use Rattle.engine.proofs.Demoting.{at-target-some, under-target-some, demotes-T1, demotes-T2}
+use Rattle.entries.specs.Holds.{Holds}
+use Rattle.entries.proofs.Laid.{header}
+use Rattle.cart.proofs.Words.{passing-header}
 use Rattle.cart.proofs.demote.Statement.{statement}
 use Rattle.cart.proofs.demote.Tie as tie
 
-add-moves : tie.Need-add-moves
-add-moves c = search needs
+-- The test that the code has made.
+tested : (c : tie.After-t1-at-target) (d : Directory) → Holds d (c .before .before .before .before .before .before .args .dir .now) → t1AtTarget d ≡ c .t1-at-target .result
+tested c d is = sym (c .t1-at-target .ensures d is)
 
-slice-read-greatest : tie.Need-slice-read-greatest
-slice-read-greatest c = search needs
+demote-head-requires : tie.Need-demote-head-requires
+demote-head-requires c κs =
+    let t = c .before in
+    let p = t .before .before .before .before .before .before .before .pre .1 .0 in
+    (t .before .before .before .before .before .before .before .pre .0, omega (arith, passing-header p, at-target-some (p .dir) (tested (t .before) (p .dir) (p .shown) ∙ t .if1 .taken)))
 
-greatest-requires : tie.Need-greatest-requires
-greatest-requires c κs = search needs
+sub-short : tie.Need-sub-t17
+sub-short c =
+    let t = c .before .before .before .before .before in
+    let s = t .before .before .before .before .before .before .before in
+    let p = s .pre .1 .0 in
+    let some = at-target-some (p .dir) (tested (t .before) (p .dir) (p .shown) ∙ t .if1 .taken) in
+    short-counted (p .accounts) (some-front (p .dir .t1) some) (stands (frontOf (p .dir .t1)) (s .pre .1 .1 (p .dir) (p .shown)) .1)
 
-slice-read-n : tie.Need-slice-read-n
-slice-read-n c = search needs
+demote-head-requires-2 : tie.Need-demote-head-requires-2
+demote-head-requires-2 c κs =
+    let t = c .before in
+    let p = t .before .before .before .before .before .before .before .pre .1 .0 in
+    (t .before .before .before .before .before .before .before .pre .0, omega (arith, passing-header p, under-target-some (p .accounts) (tested (t .before) (p .dir) (p .shown) ∙ t .if1 .left)))
 
-mul-n : tie.Need-mul-n
-mul-n c = search needs
-
-slice-read-page : tie.Need-slice-read-page
-slice-read-page c = search needs
-
-move-head-requires : tie.Need-move-head-requires
-move-head-requires c κs = search needs
-
-sub-t20 : tie.Need-sub-t20
-sub-t20 c =
-    let s = c .before .before .before .before .before .before .before .before .before .before .before .before .before .before in
-    short-counted (s .pre .1 .0) (omega arith) (omega arith)
-
-start-of-requires : tie.Need-start-of-requires
-start-of-requires c κs = search needs
-
-mul-page : tie.Need-mul-page
-mul-page c = search needs
-
-slice-read-page-2 : tie.Need-slice-read-page-2
-slice-read-page-2 c = search needs
-
-add-f : tie.Need-add-f
-add-f c = search needs
-
-mul-f : tie.Need-mul-f
-mul-f c = search needs
-
-slice-read-f : tie.Need-slice-read-f
-slice-read-f c = search needs
-
-move-head-requires-2 : tie.Need-move-head-requires-2
-move-head-requires-2 c κs = search needs
-
-sub-t29 : tie.Need-sub-t29
-sub-t29 c =
-    let t = c .before .before .before .before .before .before .before in
-    long-counted (t .before .before .before .before .before .before .before .before .before .before .pre .1 .0) (omega arith)
-
-same-length : tie.Need-same-length
-same-length c = search needs
+sub-long : tie.Need-sub-t21
+sub-long c =
+    let t = c .before .before .before .before .before in
+    let p = t .before .before .before .before .before .before .before .pre .1 .0 in
+    long-counted (p .accounts) (under-target-some (p .accounts) (tested (t .before) (p .dir) (p .shown) ∙ t .if1 .left))
 
 returns : tie.Need-returns
 returns c h holds =
-    let s = c .before .before .before .before .before .before .before .before .before .before .before .before .before .before in
-    demotes-t1 h holds (s .pre .1 .1) (omega arith) (c .before .before .before .move-head .ensures)
-
-same-length-2 : tie.Need-same-length-2
-same-length-2 c = search needs
+    let t = c .before .before .before .before .before in
+    let l = h .dir .t1 in
+    let test = tested (t .before) (h .dir) (holds .shown) ∙ t .if1 .taken in
+    let out = c .before .before .before .demote-head .ensures (h .dir) (holds .shown) in
+    demotes-T1 h (frontOf l) (dropHead l) holds (out .0) test (some-front l (at-target-some (h .dir) test)) (out .1)
 
 returns-2 : tie.Need-returns-2
 returns-2 c h holds =
-    let s = c .before .before .before .before .before .before .before .start-of in
-    demotes-t2 h holds (s .result) (s .ensures) (omega arith) (omega arith) (c .before .before .before .move-head2 .ensures)
+    let t = c .before .before .before .before .before in
+    let l = h .dir .t2 in
+    let test = tested (t .before) (h .dir) (holds .shown) ∙ t .if1 .left in
+    let p = t .before .before .before .before .before .before .before .pre .1 .0 in
+    let some = under-target-some (p .accounts) (tested (t .before) (p .dir) (p .shown) ∙ t .if1 .left) in
+    let out = c .before .before .before .demote-head2 .ensures (h .dir) (holds .shown) in
+    demotes-T2 h (frontOf l) (dropHead l) holds (out .0) test
+    (some-front l (omega (arith, some, passing-header p, header (h .dir) _ (holds .shown)))) (out .1)
 
 pub demote-spec : {M : Type 1} → statement M
 demote-spec =
     tie.close
     (tie.spec
-    add-moves
-    slice-read-greatest
-    greatest-requires
-    slice-read-n
-    mul-n
-    slice-read-page
-    move-head-requires
-    sub-t20
-    start-of-requires
-    mul-page
-    slice-read-page-2
-    add-f
-    mul-f
-    slice-read-f
-    move-head-requires-2
-    sub-t29
-    same-length
+    (λ c. search needs)
+    (λ c κs. search needs)
+    demote-head-requires
+    sub-short
+    demote-head-requires-2
+    sub-long
+    (λ c. search needs)
     returns
-    same-length-2
+    (λ c. search needs)
     returns-2)

@@ -1,56 +1,34 @@
 -- The word behind the head's page is its flags; an empty list's length word is 0.
 use borrow.Author.Needs.{needs}
-use Prim.Native.Nat.{_+_}
+use Prim.Native.Nat.{_+_, _≤_}
 use native.Mathlib.Omega.{arith}
-use Rattle.entries.proofs.Starts.{start-of-next, starts-within}
-use Rattle.cart.proofs.FirstWords.{head-flags-none, head-flags-some}
+use lib.ListN.{length}
+use Rattle.entries.specs.Stretches.{startOf}
+use Rattle.cart.proofs.Words.{head-flags-none, head-flags-some, head-inside}
 use Rattle.cart.proofs.head_flags.Statement.{statement}
 use Rattle.cart.proofs.head_flags.Tie as tie
 
-add-n : tie.Need-add-n
-add-n c = search needs
-
-mul-n : tie.Need-mul-n
-mul-n c = search needs
-
-shared-slice-read-n : tie.Need-shared-slice-read-n
-shared-slice-read-n c = search needs
+-- A head that is there stands within the words.
+inside : (c : tie.After-start-of) → let a = c .before .before .before .before .args in startOf (a .i) (a .dir .now) + 2 ≤ length (a .dir .now)
+inside c = let s = c .before .before .before .before in head-inside (s .pre .1) (omega arith) (s .pre .0)
 
 returns : tie.Need-returns
 returns c d is = head-flags-none (c .before .before .before .args .i) d is (omega arith) (c .if1 .taken)
 
-start-of-requires : tie.Need-start-of-requires
-start-of-requires c κs = search needs
-
-add-at : tie.Need-add-at
-add-at c =
-    let a = c .before .before .before .before .args in
-    omega (arith, starts-within (a .dir .now) (a .i))
-
-mul-result : tie.Need-mul-result
-mul-result c =
-    let a = c .before .before .before .before .args in
-    omega (arith, starts-within (a .dir .now) (a .i))
-
-shared-slice-read-result : tie.Need-shared-slice-read-result
-shared-slice-read-result c =
-    let a = c .before .before .before .before .before .args in
-    omega (arith, start-of-next (a .dir .now) (a .i) (omega arith), starts-within (a .dir .now) (a .i + 1))
-
 returns-2 : tie.Need-returns-2
 returns-2 c d is =
-    rw (c .before .start-of .ensures) (head-flags-some (c .before .before .before .before .before .args .i) d is (omega arith) (omega arith))
+    head-flags-some (c .before .before .before .before .before .args .i) d is (omega arith) (omega arith) (c .before .start-of .ensures)
 
 pub head-flags-spec : {M : Type 1} → statement M
 head-flags-spec =
     tie.close
     (tie.spec
-    add-n
-    mul-n
-    shared-slice-read-n
+    (λ c. search needs)
+    (λ c. search needs)
+    (λ c. search needs)
     returns
-    start-of-requires
-    add-at
-    mul-result
-    shared-slice-read-result
+    (λ c κs. search needs)
+    (λ c. omega (arith, inside c))
+    (λ c. omega (arith, inside c))
+    (λ c. omega (arith, inside (c .before)))
     returns-2)

@@ -2,30 +2,26 @@
 use borrow.Author.Needs.{needs}
 use Rattle.figures.specs.Words.{decode}
 use Rattle.figures.specs.Cart.{evict}
-use Rattle.figures.specs.Policy.{cartPolicy}
-use Rattle.entries.proofs.Placed.{tells-missed}
-use Rattle.cart.proofs.Opening.{opened}
+use Rattle.figures.specs.Request.{cartPolicy}
+use Rattle.engine.proofs.Placed.{tells-missed}
+use Rattle.entries.specs.Holds.{Holds}
+use Rattle.cart.proofs.Evicting.{opened}
 use Rattle.cart.proofs.miss.Statement.{statement}
 use Rattle.cart.proofs.miss.Tie as tie
 
-evict-requires : tie.Need-evict-requires
-evict-requires c κs = search needs
-
-place-requires : tie.Need-place-requires
-place-requires c κs = opened (c .before .before .before .before .before .before .before .pre) (c .before .before .before .before .evict .ensures .2)
-
-same-length : tie.Need-same-length
-same-length c = search needs
-
 returns : tie.Need-returns
 returns c =
-    let s = c .before .before .before .before .before .before .before .before .before .before in
-    let x = s .args .page in
+    let s = c .before .before .before .before .before .before .before .before .before .before .before in
     let z = evict (decode (s .args .dir .now)) in
-    let out = c .before .before .before .before .before .before .before .evict .ensures in
-    let holds = out .2 in
-    let placed = c .before .before .place .ensures z (holds .words-are) (holds .short-is) (holds .long-is) in
-    tells-missed cartPolicy x z placed (out .0) (out .1) (holds .moves-is)
+    let e = c .before .before .before .before .before .before .before .before .evict .ensures in
+    tells-missed Holds cartPolicy (s .args .page) z _ (e .evicted)
+    (c .before .before .place .ensures z (e .evicted .shown) (e .short-is) (e .long-is))
 
 pub miss-spec : {M : Type 1} → statement M
-miss-spec = tie.close (tie.spec evict-requires place-requires same-length returns)
+miss-spec =
+    tie.close
+    (tie.spec
+    (λ c κs. search needs)
+    (λ c κs. opened (c .before .before .before .before .before .before .before .before .pre) (c .before .before .before .before .before .evict .ensures))
+    (λ c. search needs)
+    returns)

@@ -1,87 +1,100 @@
--- The flags tell the head's bit and filter, and with them which move the look names; `Looks` has one law for each.
+-- The flags tell the head's bit and filter, and with them which move the look names; engine's Looks has one law for each.
 use borrow.Author.Needs.{needs}
-use mathlib.Core.Path.{sym, _∙_}
-use mathlib.Core.Logic.{⊎-elim}
+use mathlib.Core.Path.{_≡_, refl, sym, _∙_}
+use mathlib.Core.Bool.{true, false}
+use mathlib.Core.List.{_∷_}
 use Prim.Native.Nat.{_≤_}
 use native.Mathlib.Omega.{arith}
+use Rattle.terms.proofs.Tests.{unless-iff}
+use Rattle.figures.specs.Entry.{cleared, madeLong, isLong, dropHead}
+use Rattle.figures.specs.Directory.{Directory}
 use Rattle.figures.specs.Words.{nT1}
 use Rattle.figures.specs.Cart as Cart
-use Rattle.cart.proofs.Accounts.{passing-room, t1-some, short-counted, counts-cached}
-use Rattle.cart.proofs.Looks.{Moved, look-settles, look-goes-round, look-makes-long}
+use Rattle.engine.specs.Passes.{frontOf}
+use Rattle.engine.proofs.Accounts.{afterMove, counts-cached, short-counted}
+use Rattle.engine.proofs.Looks.{Moved, goes-front, look-settles, look-goes-round, look-makes-long}
+use Rattle.entries.specs.Holds.{Holds}
+use Rattle.cart.specs.Passing.{lengthens}
+use Rattle.cart.proofs.Words.{passing-header, passing-room, t1-some}
 use Rattle.cart.proofs.turn.Statement.{statement}
 use Rattle.cart.proofs.turn.Tie as tie
 
+-- T1 has a head, and the code's tests are of it.
+front : (c : tie.Start) (d : Directory) → Holds d (c .args .dir .now) → d .t1 ≡ frontOf (d .t1) ∷ dropHead (d .t1)
+front c d is = goes-front (d .t1) (c .pre .1 .1 .1 d is)
+
 t1-there : (c : tie.Start) → 1 ≤ nT1 (c .args .dir .now)
-t1-there c = t1-some (c .pre .1 .0) (omega arith)
+t1-there c = let p = c .pre .1 .0 in t1-some p (front c (p .dir) (p .shown))
+
+bit-is : (c : tie.After-bit) (d : Directory) → Holds d (c .before .before .before .before .before .before .args .dir .now) → frontOf (d .t1) .bit ≡ c .bit .result
+bit-is c d is = sym (c .bit .ensures (frontOf (d .t1)) (c .before .before .before .before .before .before .pre .1 .1 .0 d is))
+
+lengthens-is : (c : tie.After-becomes-long) (d : Directory) → Holds d (c .before .before .before .before .before .before .before .before .before .args .dir .now)
+    → lengthens (frontOf (d .t1)) d ≡ c .becomes-long .result
+lengthens-is c d is = sym (c .becomes-long .ensures d (frontOf (d .t1)) is (c .before .before .before .before .before .before .before .before .before .pre .1 .1 .0 d is))
 
 -- T1's head, L with its bit clear, has moved to T2's tail; `lower` is left to do.
-moved : (c : tie.After-move-head3) → let a = c .before .before .before .before .before .before .before .before .args in
-    Moved Cart.secondLook Cart.lower (a .dir .now) (a .kept .short .0) (a .kept .long .0) (a .kept .moves) (c .move-head3 .last .0)
+moved : (c : tie.After-move-head3) → let a = c .before .before .before .before .before .before .before .before .before .args in let k = a .kept in
+    Moved Holds Cart.secondLook Cart.lower (a .dir .now) k (c .move-head3 .last .0) (afterMove (k .short) (k .long) (k .hand .cleared) k)
 moved c =
-    let s = c .before .before .before .before .before .before .before .before in
-    look-settles (s .pre .1 .0) (s .args .f) (s .pre .1 .1 .0) (omega arith) (c .before .before .if3 .left) (c .move-head3 .ensures)
+    let b = c .before .before .before in
+    let s = b .before .before .before .before .before .before in
+    look-settles (s .pre .1 .0) (s .pre .1 .1 .1) (λ d is. bit-is b d is ∙ c .before .before .if1 .left)
+    (λ d is. c .move-head3 .ensures d (frontOf (d .t1)) (cleared (frontOf (d .t1))) (dropHead (d .t1)) is (front s d is) refl
+    (b .before .cleared .ensures (frontOf (d .t1)) (s .pre .1 .1 .0 d is)))
 
-add-moves : tie.Need-add-moves
-add-moves c = search needs
+test : (c : tie.Then2) (d : Directory) → Holds d (c .before .before .before .before .before .before .before .before .before .before .args .dir .now)
+    → (isLong (frontOf (d .t1) .filter) ≡ false) × (Cart.becomesLong d ≡ true)
+test c d is = unless-iff _ _ .0 (lengthens-is (c .before) d is ∙ c .if2 .taken)
 
 becomes-long-requires : tie.Need-becomes-long-requires
-becomes-long-requires c κs = search needs
+becomes-long-requires c κs = let p = c .before .before .before .before .before .before .before .before .pre .1 .0 in omega (arith, p .accounts, passing-header p, passing-room p)
 
 move-head-requires : tie.Need-move-head-requires
-move-head-requires c κs =
-    let s = c .before .before .before .before .before .before .before .before .before in
-    (s .pre .0, omega (arith, t1-there s))
+move-head-requires c κs = let s = c .before .before .before .before .before .before .before .before .before .before .before .before in (s .pre .0, omega (arith, t1-there s))
 
-sub-t14 : tie.Need-sub-t14
-sub-t14 c =
-    let s = c .before .before .before .before .before .before .before .before .before .before .before .before .before in
-    omega (arith, short-counted (s .pre .1 .0) (t1-there s) (omega arith))
+sub-short : tie.Need-sub-t19
+sub-short c =
+    let t = c .before .before .before .before .before .before in
+    let s = t .before .before .before .before .before .before .before .before .before .before in
+    let p = s .pre .1 .0 in
+    short-counted (p .accounts) (front s (p .dir) (p .shown)) (test t (p .dir) (p .shown) .0)
 
-add-t16 : tie.Need-add-t16
-add-t16 c =
-    let s = c .before .before .before .before .before .before .before .before .before .before .before .before .before .before in
-    omega (arith, counts-cached (s .pre .1 .0))
-
-same-length : tie.Need-same-length
-same-length c = search needs
+add-long : tie.Need-add-t21
+add-long c = let p = c .before .before .before .before .before .before .before .before .before .before .before .before .before .before .before .before .before .pre .1 .0 in omega (arith, p .accounts, counts-cached (p .accounts))
 
 returns : tie.Need-returns
 returns c =
-    let s = c .before .before .before .before .before .before .before .before .before .before .before .before .before .before in
-    let t = c .before .before .before .before .before .before in
-    look-makes-long (s .pre .1 .0) (s .args .f) (s .pre .1 .1 .0) (t .before .before .before .if1 .taken)
-    (λ d is. sym (t .if2 .taken) ∙ t .before .becomes-long .ensures d is) (c .before .before .before .before .move-head .ensures)
-
-sub-move-head : tie.Need-sub-move-head
-sub-move-head c = search needs
+    let m = c .before .before .before .before in
+    let t = m .before .before .before in
+    let b = t .before .before .before .before in
+    let s = b .before .before .before .before .before .before in
+    look-makes-long (s .pre .1 .0) (λ d is. (bit-is b d is ∙ t .before .before .before .if1 .taken, test t d is .0)) (λ d is. test t d is .1)
+    (λ d is. let e = frontOf (d .t1) in
+    m .move-head .ensures d e (madeLong (cleared e)) (dropHead (d .t1)) is (front s d is) refl
+    (m .before .made-long .ensures (cleared e) (b .before .cleared .ensures e (s .pre .1 .1 .0 d is))))
+    .looked _ (λ d is. is)
 
 move-head-requires-2 : tie.Need-move-head-requires-2
-move-head-requires-2 c κs =
-    let s = c .before .before .before .before .before .before .before in
-    (s .pre .0, omega (arith, t1-there s))
-
-move-head-requires-3 : tie.Need-move-head-requires-3
-move-head-requires-3 c κs =
-    let s = c .before .before .before .before .before .before .before in
-    (s .pre .0, omega (arith, t1-there s))
-
-lower-requires : tie.Need-lower-requires
-lower-requires c κs =
-    let p = moved (c .before .before .before) .between in
-    omega (arith, p, passing-room p)
-
-same-length-2 : tie.Need-same-length-2
-same-length-2 c = search needs
+move-head-requires-2 c κs = let s = c .before .before .before .before .before .before .before .before .before .before .before in (s .pre .0, omega (arith, t1-there s))
 
 returns-2 : tie.Need-returns-2
 returns-2 c =
-    let s = c .before .before .before .before .before .before .before .before .before .before in
-    look-goes-round (s .pre .1 .0) (s .args .f) (s .pre .1 .1 .0) (c .before .before .before .before .if3 .taken)
-    (λ one. ⊎-elim (λ w d is. sym (w .3 .left) ∙ w .2 .ensures d is) (λ w. absurd (w .left one)) (c .before .before .before .before .before .if1 .came))
-    (c .before .before .move-head2 .ensures)
+    let m = c .before .before in
+    let t = m .before .before in
+    let b = t .before .before .before .before in
+    let s = b .before .before .before .before .before .before in
+    look-goes-round (s .pre .1 .0) (λ d is. bit-is b d is ∙ t .before .before .before .if1 .taken)
+    (λ d is short. rw short at (lengthens-is (t .before) d is ∙ t .if2 .left))
+    (λ d is. m .move-head2 .ensures d (frontOf (d .t1)) (cleared (frontOf (d .t1))) (dropHead (d .t1)) is (front s d is) refl
+    (b .before .cleared .ensures (frontOf (d .t1)) (s .pre .1 .1 .0 d is)))
+    .looked _ (λ d is. is)
 
-same-length-3 : tie.Need-same-length-3
-same-length-3 c = search needs
+move-head-requires-3 : tie.Need-move-head-requires-3
+move-head-requires-3 c κs = let s = c .before .before .before .before .before .before .before .before in (s .pre .0, omega (arith, t1-there s))
+
+lower-requires : tie.Need-lower-requires
+lower-requires c κs = let p = moved (c .before .before .before) .between in omega (arith, p .accounts, passing-header p, passing-room p)
 
 returns-3 : tie.Need-returns-3
 returns-3 c = moved (c .before .before .before .before .before .before) .looked _ (c .before .before .lower .ensures)
@@ -90,18 +103,21 @@ pub turn-spec : {M : Type 1} → statement M
 turn-spec =
     tie.close
     (tie.spec
-    add-moves
+    (λ c. search needs)
+    (λ c κs. search needs)
+    (λ c κs. search needs)
+    (λ c. search needs)
     becomes-long-requires
+    (λ c κs. search needs)
     move-head-requires
-    sub-t14
-    add-t16
-    same-length
+    sub-short
+    add-long
+    (λ c. search needs)
     returns
-    sub-move-head
     move-head-requires-2
+    (λ c. search needs)
+    returns-2
     move-head-requires-3
     lower-requires
-    same-length-2
-    returns-2
-    same-length-3
+    (λ c. search needs)
     returns-3)

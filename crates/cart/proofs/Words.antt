@@ -1,0 +1,93 @@
+-- What the code reads in words that hold a directory and writes there: its tests, its changes of q, a head's flags.
+-- And what room the words of the passes have.
+use mathlib.Core.Path.{_≡_, refl, sym, ap, _∙_}
+use mathlib.Core.List.{List, [], _∷_}
+use Prim.Native.Nat.{ℕ, _+_, _-_, _*_, _≤_, _<_, max, min}
+use native.Mathlib.Omega.{arith}
+use lib.ListN.{getD, set}
+use lib.Dec.{leb}
+use borrow.Author.Tests.{le-leb, lt-leb}
+use Rattle.terms.specs.Choice.{∣_∣}
+use Rattle.figures.specs.Entry.{Entry, demoted, dropHead}
+use Rattle.figures.specs.Directory.{Directory, unit, listOf}
+use Rattle.figures.specs.Words.{flags, size, nT1, nT2, nB1, nB2}
+use Rattle.figures.specs.Cart.{raise, lower, becomesLong}
+use Rattle.engine.specs.declared.counts.Kept.{Kept}
+use Rattle.engine.specs.Passes.{frontOf, Passing}
+use Rattle.engine.proofs.Looks.{some-front}
+use Rattle.entries.specs.Holds.{Holds}
+use Rattle.entries.specs.Flags.{Becomes}
+use Rattle.entries.specs.Leaves.{HeadMoved}
+use Rattle.entries.specs.Stretches.{Room, nameOf, startOf}
+use Rattle.entries.proofs.Laid.{Header, header, with-q, length-of-list}
+use Rattle.entries.proofs.Heads.{head-at}
+use Rattle.entries.proofs.Rooms.{roomy}
+use Rattle.entries.proofs.Starts.{start-of-next, starts-within}
+use Rattle.cart.specs.Passing.{HeadDemoted}
+
+module _ (d : Directory) {w : List ℕ} (is : Holds d w) where
+  -- What "raise q", line 33 and line 30's test come to, on the words.
+  pub raised : (nS q : ℕ) → size w ≤ nT2 w + nB2 w + nT1 w - nS → q ≡ min (getD w 3 0 + 1) (2 * size w - nT1 w)
+      → Holds (raise nS d) (set w 3 q)
+  raised nS q taken least =
+      let r = header d w is in
+      let test = le-leb (d .c) (∣ d .t2 ∣ + ∣ d .b2 ∣ + ∣ d .t1 ∣ - nS) (omega arith) in
+      rw test (with-q d is (omega arith))
+
+  pub not-raised : (nS : ℕ) → nT2 w + nB2 w + nT1 w - nS < size w → Holds (raise nS d) w
+  not-raised nS left =
+      let r = header d w is in
+      let test = lt-leb (d .c) (∣ d .t2 ∣ + ∣ d .b2 ∣ + ∣ d .t1 ∣ - nS) (omega arith) in
+      rw test is
+
+  pub lowered : (less q : ℕ) → less ≡ getD w 3 0 - 1 → q ≡ max less (size w - nT1 w) → Holds (lower d) (set w 3 q)
+  lowered less q is-less greatest = let r = header d w is in with-q d is (omega arith)
+
+  pub becomes-long-read : (least : ℕ) → least ≡ min (getD w 2 0 + unit) (unit * nB1 w) → leb least (unit * nT1 w) ≡ becomesLong d
+  becomes-long-read least is-least =
+      let r = header d w is in
+      let a : least ≡ min (d .p + unit) (unit * ∣ d .b1 ∣) = omega arith in
+      rw (a, r .t1)
+
+no-flags : (l : List Entry) → ∣ l ∣ ≡ 0 → 0 ≡ flags (frontOf l)
+no-flags [] none = refl
+no-flags (e ∷ l) none = absurd (omega arith)
+
+module _ (i : ℕ) (d : Directory) {w : List ℕ} (is : Holds d w) (known : i ≤ 3) where
+  pub head-flags-none : getD w (4 + i) 0 ≡ 0 → 0 ≡ flags (frontOf (listOf (nameOf i) d))
+  head-flags-none none = no-flags (listOf (nameOf i) d) (omega (arith, length-of-list i d w is known))
+
+  pub head-flags-some : 1 ≤ getD w (4 + i) 0 → {at : ℕ} → at ≡ startOf i w → getD w (at + 1) 0 ≡ flags (frontOf (listOf (nameOf i) d))
+  head-flags-some some start =
+      let h = head-at i d is known some start in
+      h .flags-word ∙ ap (λ (l : List Entry). flags (frontOf l)) (sym (h .front))
+
+-- The head of list i: where it stands, and its demotion.
+module _ {i : ℕ} {w : List ℕ} (known : i ≤ 1) (some : 1 ≤ getD w (4 + i) 0) where
+  pub head-inside : Room w → startOf i w + 2 ≤ ∣ w ∣
+  head-inside room = omega (arith, room, start-of-next w i (omega arith), starts-within w (i + 1))
+
+  pub head-demoted : {w′ : List ℕ} {at f : ℕ} → at ≡ startOf i w → Becomes demoted (getD w (at + 1) 0) f → HeadMoved i (i + 2) f w w′
+      → HeadDemoted i (getD w at 0) w w′
+  head-demoted start becomes moved d is =
+      let l = listOf (nameOf i) d in
+      let h = head-at i d is (omega arith) some start in
+      let front = some-front l (omega (arith, length-of-list i d w is (omega arith))) in (
+        h .page-word ∙ ap (λ (l : List Entry). frontOf l .page) (sym (h .front)),
+        moved d (frontOf l) (demoted (frontOf l)) (dropHead l) is front refl
+            (becomes (frontOf l) (head-flags-some i d is (omega arith) some start)),
+      )
+
+module _ {w : List ℕ} {k : Kept} (p : Passing Holds w k) where
+  pub passing-header : Header (p .dir) w
+  passing-header = header (p .dir) w (p .shown)
+
+  pub passing-room : Room w
+  passing-room = roomy (p .dir) (p .shown) (omega (arith, p .accounts)) (p .accounts .c-most)
+
+  -- A list with a head has a length.
+  pub t1-some : {e : Entry} {es : List Entry} → p .dir .t1 ≡ e ∷ es → 1 ≤ nT1 w
+  t1-some front = omega (arith, passing-header, ap ∣_∣ front)
+
+  pub t2-some : {e : Entry} {es : List Entry} → p .dir .t2 ≡ e ∷ es → 1 ≤ nT2 w
+  t2-some front = omega (arith, passing-header, ap ∣_∣ front)
