@@ -12,6 +12,8 @@ use Rattle.figures.specs.Words.{nT1, nT2, decode}
 use Rattle.figures.specs.Cart.{cost, counted, evict}
 use Rattle.figures.specs.Demands.{CartStops}
 use Rattle.laws.proofs.Lists.{total-append, total-at-most, bits-at-most-one, short-and-long}
+use Rattle.laws.proofs.Facts.{CartFacts}
+use Rattle.laws.proofs.Soundness.{cart-iff}
 use Rattle.laws.proofs.Cart.{cost-at-most-two, cart-stops, cart-opens, cart-opened, cart-counts}
 use Rattle.engine.specs.declared.counts.Kept.{Kept}
 use Rattle.engine.specs.declared.counts.Evicted.{Evicted}
@@ -34,8 +36,11 @@ module _ {w : List ℕ} (f : Full cart w) where
   abbrev a : Filled cart w
   a = filled f
 
+  own : CartFacts (decode w)
+  own = cart-iff (decode w) .0 (a .own)
+
   pub stops : CartStops (decode w)
-  stops = cart-stops (decode w) (a .shared) (a .own) (a .full)
+  stops = cart-stops (decode w) (a .shared) own (a .full)
 
   -- What `count` says of the entries of T1 and T2.
   module _ (longs : ℕ) (counts : OfEntries w 8 (nT1 w + nT2 w) (λ l. longs ≡ total (ofFlag 2) l)) where
@@ -55,7 +60,7 @@ module _ {w : List ℕ} (f : Full cart w) where
         record {
           dir = d;
           shown = a .is;
-          accounts = omega (arith, a .shared, a .own, a .full, short-and-long (d .t1), short-and-long (d .t2));
+          accounts = omega (arith, a .shared, own, a .full, short-and-long (d .t1), short-and-long (d .t2));
         }
 
     pub begins-shown : ShowsHand Holds (counted (decode w)) w (keptAtStart (nT1 w + nT2 w) longs)
@@ -67,12 +72,12 @@ module _ {w : List ℕ} (f : Full cart w) where
       let d = decode w in
       let d′ = evict d .dir in
       let shown = e .evicted .shown in
-      let counts = cart-counts d (a .shared) (a .own) (a .full) in
+      let counts = cart-counts d (a .shared) own (a .full) in
       let h = header d′ W shown in (
-        freed a d′ shown (cart-opens d (a .shared) (a .own) (a .full)),
+        freed a d′ shown (cart-opens d (a .shared) own (a .full)),
         omega (
           arith,
-          cart-opened d (a .shared) (a .own) (a .full),
+          cart-opened d (a .shared) own (a .full),
           e .short-is,
           e .long-is,
           counts .0,

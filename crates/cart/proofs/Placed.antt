@@ -9,7 +9,7 @@ use Rattle.figures.specs.Directory.{T1, placeNew}
 use Rattle.figures.specs.Words.{decode}
 use Rattle.figures.specs.Hand.{Hand}
 use Rattle.figures.specs.Cart.{raise, trim, placeB1, placeB2}
-use Rattle.figures.specs.Request.{cartPolicy}
+use Rattle.figures.specs.Policy.{cartPolicy}
 use Rattle.laws.proofs.Lists.{length-tail, length-without}
 use Rattle.engine.specs.declared.counts.ShortCount.{ShortCount}
 use Rattle.engine.specs.declared.counts.LongCount.{LongCount}

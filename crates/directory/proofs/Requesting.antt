@@ -16,7 +16,9 @@ use Rattle.figures.specs.Sound.{exactLength, sound}
 use Rattle.figures.specs.Request.{request}
 use Rattle.figures.specs.Refusals.{checkNumber, onCheck, onRequest, Answered, refusedRequest, servedRequest}
 use Rattle.laws.proofs.Moves.{request-moves-at-most}
-use Rattle.entries.specs.Answers.{Tells}
+use Rattle.engine.specs.declared.Served.{Served}
+use Rattle.engine.specs.Shown.{Tells}
+use Rattle.entries.specs.Holds.{Holds}
 use Rattle.directory.specs.Promises.{Requested}
 use Rattle.directory.proofs.Serving.{decoded-sound}
 
@@ -62,9 +64,9 @@ module _ (w : List ℕ) (x n : ℕ) (number : n ≡ onCheck w .number) where
         moves-at-most = omega arith;
       }
 
-  pub requested-served : n ≡ 0 → (kind page list moves : ℕ) (w′ : List ℕ) → Tells (request x (decode w)) kind page list moves w′
-      → Requested w x (record { number = 0; kind = kind; page = page; list = list; moves = moves }) w′
-  requested-served none kind page list moves w′ t =
+  pub requested-served : n ≡ 0 → (s : Served) (w′ : List ℕ) → Tells Holds (request x (decode w)) s w′
+      → Requested w x (record { number = 0; kind = s .kind; page = s .page; list = s .list; moves = s .moves }) w′
+  requested-served none s w′ t =
       let e = sym (served none) in
       let d-sound = decoded-sound w (accepted-sound w (sym number ∙ none)) in
       record {
@@ -73,6 +75,6 @@ module _ (w : List ℕ) (x n : ℕ) (number : n ≡ onCheck w .number) where
         page-is = t .page-is ∙ ap (λ (a : Answered). a .page) e;
         list-is = t .list-is ∙ ap (λ (a : Answered). a .list) e;
         moves-is = t .moves-is ∙ ap (λ (a : Answered). a .moves) e;
-        words-are = t .words-are ∙ ap (λ (a : Answered). a .words) e;
+        words-are = sym (t .shown) ∙ ap (λ (a : Answered). a .words) e;
         moves-at-most = omega (arith, t .moves-is, request-moves-at-most x (decode w) d-sound);
       }

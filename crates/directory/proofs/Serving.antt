@@ -13,7 +13,7 @@ use Rattle.terms.proofs.ByPolicy.{by-policy}
 use Rattle.figures.specs.Entry.{has}
 use Rattle.figures.specs.Directory.{Directory, hit, placeNew, cached}
 use Rattle.figures.specs.Words.{encode, decode, size, nT1, nT2}
-use Rattle.figures.specs.Policy.{Policy, carPolicy, cartPolicy, policyOf}
+use Rattle.figures.specs.Policy.{policyOf}
 use Rattle.figures.specs.Sound.{sound}
 use Rattle.figures.specs.Request.{Served, still, missed, request}
 use Rattle.figures.specs.Demands.{Sound}
@@ -30,7 +30,7 @@ use Rattle.entries.proofs.Reading.{told, cache-held}
 use Rattle.entries.proofs.Indexes.{index-has, index-lacks, has-append}
 use Rattle.entries.proofs.Rooms.{roomy}
 use Rattle.entries.proofs.Searching.{Found}
-use Rattle.directory.specs.Ready.{stillOf, Ready}
+use Rattle.directory.specs.Ready.{stillOf, evicting, Ready}
 
 pub ready : (w : List ℕ) → sound w ≡ true → Ready w
 ready w is-sound =
@@ -69,17 +69,17 @@ module _ {w : List ℕ} (r : Ready w) where
   by-named : (P : ℕ → Type 0) → P car → P cart → P (d .policy)
   by-named P of-car of-cart = by-policy P of-car of-cart (d .policy) (facts-of-words w (r .is-sound) .known)
 
+  -- A miss of the policy that it names, whose number word 0 has.
+  pub evicts-as : (n : ℕ) → getD w 0 0 ≡ n → (x : ℕ) {a : Answered} {w′ : List ℕ}
+      → Tells Holds (missed (policyOf n) x (policyOf n .evict d)) a w′ → Tells Holds (evicting x d) a w′
+  evicts-as n is x {a} {w′} told =
+      subst (λ (n : ℕ). Tells Holds (missed (policyOf n) x (policyOf n .evict d)) a w′) (sym is ∙ held .policy) told
+
   pub other-is-cart : (getD w 0 0 ≡ car → ⊥) → getD w 0 0 ≡ cart
   other-is-cart is-not =
       held .policy
       ∙ by-named (λ n. (n ≡ car → ⊥) → n ≡ cart) (λ not-car. absurd (not-car refl)) (λ not-car. refl)
       (λ is. is-not (held .policy ∙ is))
-
-  pub names-car : getD w 0 0 ≡ car → policyOf (d .policy) ≡ carPolicy
-  names-car is = ap policyOf (sym (held .policy) ∙ is)
-
-  pub names-cart : (getD w 0 0 ≡ car → ⊥) → policyOf (d .policy) ≡ cartPolicy
-  names-cart is-not = ap policyOf (sym (held .policy) ∙ other-is-cart is-not)
 
   -- a request leaves it sound
   pub ready-again : (x : ℕ) (w′ : List ℕ) → Holds (request x d .dir) w′ → Ready w′
@@ -117,10 +117,7 @@ module _ {w : List ℕ} (r : Ready w) where
           let room = ne-eqb (cached d) (d .c) (λ e. omega (arith, held)) in
           tells-as (stillOf 1) (serve-room (policyOf (d .policy)) x d (missed-cache outside) room) (still-told 1 (placeNew x d) is)
 
-      pub tells-full : (π : Policy) → policyOf (d .policy) ≡ π → n ≤ k → size w ≤ n → {a : Answered}
-          → Tells Holds (missed π x (π .evict d)) a w′ → Tells Holds (request x d) a w′ × Ready w′
-      tells-full π named outside full {a} told =
+      pub tells-full : n ≤ k → size w ≤ n → {a : Answered} → Tells Holds (evicting x d) a w′ → Tells Holds (request x d) a w′ × Ready w′
+      tells-full outside full {a} told =
           let is-full = eq-eqb (cached d) (d .c) (omega (arith, held, r .cache-fits)) in
-          tells-as a
-          (serve-full (policyOf (d .policy)) x d (missed-cache outside) is-full ∙ ap (λ (π : Policy). missed π x (π .evict d)) named)
-          told
+          tells-as a (serve-full (policyOf (d .policy)) x d (missed-cache outside) is-full) told

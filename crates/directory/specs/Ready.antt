@@ -6,7 +6,10 @@ use mathlib.Core.List.{List, _++_}
 use Prim.Native.Nat.{ℕ, _+_, _*_, _≤_}
 use lib.ListN.{take, drop}
 use Rattle.terms.specs.Choice.{∣_∣}
-use Rattle.figures.specs.Request.{answer, request}
+use Rattle.figures.specs.Directory.{Directory}
+use Rattle.figures.specs.Policy.{policyOf}
+use Rattle.figures.specs.Request as Request
+use Rattle.figures.specs.Request.{answer, missed, request}
 use Rattle.figures.specs.Run.{noted, run}
 use Rattle.tally.specs.declared.Tally.{Tally}
 use Rattle.engine.specs.declared.Served.{Served}
@@ -18,6 +21,10 @@ use Rattle.figures.specs.Sound.{sound}
 -- An answer of this kind that evicts nothing.
 abbrev pub stillOf : ℕ → Served
 stillOf kind = record { kind = kind; page = 0; list = 0; moves = 0; cleared = 0 }
+
+-- A miss in a full cache, under the policy that the directory names.
+abbrev pub evicting : ℕ → Directory → Request.Served
+evicting x d = let π = policyOf (d .policy) in missed π x (π .evict d)
 
 -- The words of a sound directory, with the numbers that tell where its lists are.
 pub record Ready (w : List ℕ) : Type 0 where

@@ -4,14 +4,14 @@ ghost use mathlib.Core.Path.{_≡_};
 ghost use Prim.Native.Nat.{_+_, _*_, _≤_};
 ghost use mathlib.Core.List.{_∷_, _++_};
 ghost use lib.ListN.{length, take, drop, replicate};
-ghost use Rattle.figures.specs.Words.{decode};
+ghost use Rattle.figures.specs.Words.{decode, size, nT1, nT2};
 ghost use Rattle.figures.specs.Request.{request};
 ghost use Rattle.figures.specs.Run.{zeroTally};
 ghost use Rattle.engine.specs.Shown.{Tells};
 ghost use Rattle.entries.specs.Holds.{Holds};
 ghost use Rattle.tally.specs.Note.{defined, Small};
 ghost use Rattle.directory.specs.Promises.{Freshened, Checked, Requested, Replayed};
-ghost use Rattle.directory.specs.Ready.{stillOf, Ready, Stepped, RunThrough};
+ghost use Rattle.directory.specs.Ready.{stillOf, evicting, Ready, Stepped, RunThrough};
 use engine::kinds;
 use entries::header;
 use entries::lists;
@@ -93,6 +93,19 @@ fn still(kind: u32) -> engine::Served
     }
 }
 
+// A miss in a full cache, by the policy that the directory names.
+fn miss(dir: &mut [u32], page: u32) -> engine::Served
+    requires { ⌜ Ready (now dir) ⌝ }
+    requires { ⌜ nT1 (now dir) + nT2 (now dir) ≡ size (now dir) ⌝ }
+    ensures { λ r. ⌜ Tells Holds (evicting page (decode (now (dir .entry)))) r (now (dir .exit)) ⌝ }
+{
+    if dir[header::POLICY] == policies::CAR {
+        car::miss(dir, page)
+    } else {
+        cart::miss(dir, page)
+    }
+}
+
 // One request of a sound directory, which it leaves sound: the step under requests and runs.
 fn serve(dir: &mut [u32], page: u32) -> engine::Served
     requires { ⌜ Ready (now dir) ⌝ }
@@ -109,11 +122,7 @@ fn serve(dir: &mut [u32], page: u32) -> engine::Served
         lists::place_new(dir, page);
         return still(kinds::WITH_ROOM);
     }
-    if dir[header::POLICY] == policies::CAR {
-        car::miss(dir, page)
-    } else {
-        cart::miss(dir, page)
-    }
+    miss(dir, page)
 }
 
 // One request: refusals as the soundness check.

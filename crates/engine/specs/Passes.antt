@@ -8,7 +8,7 @@ use Rattle.figures.specs.Entry.{Entry, newShort, isLong, bits, short, long, tot
 use Rattle.figures.specs.Directory.{Directory, Name, unit, listOf, withList, toTail, cached, remembered, inCache}
 use Rattle.figures.specs.Hand.{Hand, Look, again}
 use Rattle.figures.specs.Cart.{cost, demotion}
-use Rattle.figures.specs.Request.{cartPolicy}
+use Rattle.figures.specs.Policy.{cartPolicy}
 use Rattle.engine.specs.declared.counts.ShortCount.{ShortCount}
 use Rattle.engine.specs.declared.counts.LongCount.{LongCount}
 use Rattle.engine.specs.declared.counts.Kept.{Kept}

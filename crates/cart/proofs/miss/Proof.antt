@@ -2,7 +2,7 @@
 use borrow.Author.Needs.{needs}
 use Rattle.figures.specs.Words.{decode}
 use Rattle.figures.specs.Cart.{evict}
-use Rattle.figures.specs.Request.{cartPolicy}
+use Rattle.figures.specs.Policy.{cartPolicy}
 use Rattle.engine.proofs.Placed.{tells-missed}
 use Rattle.entries.specs.Holds.{Holds}
 use Rattle.cart.proofs.Evicting.{opened}

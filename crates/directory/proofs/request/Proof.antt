@@ -29,7 +29,7 @@ returns-2 : tie.Need-returns-2
 returns-2 c =
     let s = c .before .before .before .before .before .before .before .before in
     let accepted = c .before .before .before .before .before .check .ensures .number-is in
-    requested-served (s .args .dir .now) (s .args .page) _ accepted (omega arith) _ _ _ _ _ (c .before .before .serve .ensures .0)
+    requested-served (s .args .dir .now) (s .args .page) _ accepted (omega arith) _ _ (c .before .before .serve .ensures .0)
 
 pub request-spec : {M : Type 1} → statement M
 request-spec =

@@ -2,6 +2,8 @@
 use mathlib.Core.Path.{ap, _∙_}
 use native.Mathlib.Omega.{arith}
 use borrow.Author.Needs.{needs}
+use Rattle.figures.specs.Words.{decode}
+use Rattle.figures.specs.Request.{request}
 use Rattle.tally.specs.Note.{defined}
 use Rattle.tally.proofs.Tallies.{noted-defined}
 use Rattle.directory.proofs.Replaying.{moves-counted}
@@ -22,7 +24,7 @@ returns c =
     let s = v .before .before .before .before in
     let told = v .serve .ensures .0 in
     record {
-      tally-is = ap defined (c .counted .ensures) ∙ noted-defined (s .args .t) (v .serve .result) _ (told .kind-is) (told .moves-is);
+      tally-is = ap defined (c .counted .ensures) ∙ noted-defined (s .args .t) (v .serve .result) (request (s .args .page) (decode (s .args .dir .now))) (told .kind-is) (told .moves-is);
       shown = told .shown;
       answers-are = rw (told .kind-is, told .page-is, told .list-is, told .moves-is) at (p .put-answer .ensures);
       ready-again = v .serve .ensures .1;
