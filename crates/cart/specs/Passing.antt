@@ -1,11 +1,10 @@
 -- What CART's functions ask of lent words and read there, beside what engine says of the passes.
 -- These functions are internal: the public operations ask for nothing.
 use mathlib.Core.Path.{_≡_}
-use mathlib.Core.Bool.{Bool, false, _||_}
+use mathlib.Core.Bool.{Bool, false}
 use mathlib.Core.List.{List}
 use Prim.Native.Nat.{ℕ, _+_, _*_, _≤_}
 use lib.ListN.{getD}
-use lib.Dec.{ltb, eqb}
 use Rattle.terms.specs.Choice.{if_then_else_}
 use Rattle.figures.specs.Entry.{Entry, demoted, isLong}
 use Rattle.figures.specs.Directory.{Directory, listOf}
@@ -16,10 +15,6 @@ use Rattle.engine.specs.declared.counts.LongCount.{LongCount}
 use Rattle.engine.specs.Passes.{frontOf, headTo, goesOn}
 use Rattle.entries.specs.Holds.{Holds}
 use Rattle.entries.specs.Stretches.{nameOf}
-
--- The list that trim takes from, by its number: B1 where |B1| > q or B2 is empty, else B2.
-abbrev pub oldestList : ℕ → ℕ → ℕ → ℕ
-oldestList q k1 k2 = if ltb q k1 || eqb k2 0 then 2 else 3
 
 -- Line 30's test of T1's head.
 abbrev pub lengthens : Entry → Directory → Bool

@@ -12,12 +12,12 @@ ghost use Rattle.figures.specs.Cart as Cart;
 ghost use Rattle.figures.specs.Policy.{cartPolicy};
 ghost use Rattle.figures.specs.Request.{missed};
 ghost use Rattle.engine.specs.Shown.{Makes, Tells};
-ghost use Rattle.engine.specs.Passes.{goesOn, Passing, Looked, PassEnds, Evicts, Demotes, Places};
+ghost use Rattle.engine.specs.Passes.{goesOn, oldestOf, Passing, Looked, PassEnds, Evicts, Demotes, Places};
 ghost use Rattle.entries.specs.Holds.{Holds};
-ghost use Rattle.entries.specs.Stretches.{Room};
+ghost use Rattle.entries.specs.Stretches.{Room, nameOf};
 ghost use Rattle.entries.specs.Flags.{Says};
 ghost use Rattle.entries.specs.Returning.{Full, Freed};
-ghost use Rattle.cart.specs.Passing.{lengthens, oldestList, HeadFlags, SecondTest, HeadDemoted, Raisable, CountsFit};
+ghost use Rattle.cart.specs.Passing.{lengthens, HeadFlags, SecondTest, HeadDemoted, Raisable, CountsFit};
 use engine::counts;
 use engine::kinds;
 use entries::amounts;
@@ -232,7 +232,7 @@ pub fn evict(dir: &mut [u32]) -> counts::Evicted
 
 // The history that trim takes from.
 fn oldest(q: u32, k1: u32, k2: u32) -> usize
-    ensures { λ r. ⌜ r ≡ oldestList q k1 k2 ⌝ }
+    ensures { λ r. ⌜ (nameOf r ≡ oldestOf q k1 k2) × (2 ≤ r) × (r ≤ 3) ⌝ }
 {
     if q < k1 {
         return lists::B1;

@@ -6,3 +6,4 @@ pub mod Passes
 pub mod Accounts
 pub mod Looks
 pub mod Demoting
+pub mod Trimming

@@ -4,8 +4,10 @@ use mathlib.Core.Path.{_≡_}
 use mathlib.Core.Bool.{Bool, _||_}
 use mathlib.Core.List.{List, [], _∷_}
 use Prim.Native.Nat.{ℕ, _+_, _*_, _≤_}
+use lib.Dec.{ltb, eqb}
+use Rattle.terms.specs.Choice.{if_then_else_}
 use Rattle.figures.specs.Entry.{Entry, newShort, isLong, bits, short, long, total, dropHead}
-use Rattle.figures.specs.Directory.{Directory, Name, unit, listOf, withList, toTail, cached, remembered, inCache}
+use Rattle.figures.specs.Directory.{Directory, Name, B1, B2, unit, listOf, withList, toTail, cached, remembered, inCache}
 use Rattle.figures.specs.Hand.{Hand, Look, again}
 use Rattle.figures.specs.Cart.{cost, demotion}
 use Rattle.figures.specs.Policy.{cartPolicy}
@@ -23,6 +25,10 @@ frontOf (e ∷ es) = e
 -- The head of list i, as f makes it, becomes the tail of list j.
 abbrev pub headTo : Name → Name → (Entry → Entry) → Directory → Directory
 headTo i j f d = toTail j (f (frontOf (listOf i d))) (withList i (dropHead (listOf i d)) d)
+
+-- The history that trim takes from: B1 where |B1| > q or B2 is empty, else B2.
+abbrev pub oldestOf : ℕ → ℕ → ℕ → Name
+oldestOf q k1 k2 = if ltb q k1 || eqb k2 0 then B1 else B2
 
 -- Line 27's test of the head: it is L or has its bit set.
 abbrev pub goesOn : Entry → Bool

@@ -1,4 +1,4 @@
--- The test is the definition's. T1's head is S where the passes stop, and T2's is L; the chosen list has a head: the cache is full.
+-- The test is the definition's. T1's head is S where the passes stop, and T2's is L; the full cache has the head that is chosen.
 use borrow.Author.Needs.{needs}
 use mathlib.Core.Path.{_≡_, sym, _∙_}
 use native.Mathlib.Omega.{arith}
@@ -15,14 +15,17 @@ use Rattle.cart.proofs.demote.Statement.{statement}
 use Rattle.cart.proofs.demote.Tie as tie
 
 -- The test that the code has made.
-tested : (c : tie.After-t1-at-target) (d : Directory) → Holds d (c .before .before .before .before .before .before .args .dir .now) → t1AtTarget d ≡ c .t1-at-target .result
+tested : (c : tie.After-t1-at-target) (d : Directory) → Holds d (c .before .before .before .before .before .before .args .dir .now)
+    → t1AtTarget d ≡ c .t1-at-target .result
 tested c d is = sym (c .t1-at-target .ensures d is)
 
 demote-head-requires : tie.Need-demote-head-requires
 demote-head-requires c κs =
     let t = c .before in
-    let p = t .before .before .before .before .before .before .before .pre .1 .0 in
-    (t .before .before .before .before .before .before .before .pre .0, omega (arith, passing-header p, at-target-some (p .dir) (tested (t .before) (p .dir) (p .shown) ∙ t .if1 .taken)))
+    let s = t .before .before .before .before .before .before .before in
+    let p = s .pre .1 .0 in
+    let some = at-target-some (p .dir) (tested (t .before) (p .dir) (p .shown) ∙ t .if1 .taken) in
+    (s .pre .0, omega (arith, passing-header p, some))
 
 sub-short : tie.Need-sub-t17
 sub-short c =
@@ -35,8 +38,10 @@ sub-short c =
 demote-head-requires-2 : tie.Need-demote-head-requires-2
 demote-head-requires-2 c κs =
     let t = c .before in
-    let p = t .before .before .before .before .before .before .before .pre .1 .0 in
-    (t .before .before .before .before .before .before .before .pre .0, omega (arith, passing-header p, under-target-some (p .accounts) (tested (t .before) (p .dir) (p .shown) ∙ t .if1 .left)))
+    let s = t .before .before .before .before .before .before .before in
+    let p = s .pre .1 .0 in
+    let some = under-target-some (p .accounts) (tested (t .before) (p .dir) (p .shown) ∙ t .if1 .left) in
+    (s .pre .0, omega (arith, passing-header p, some))
 
 sub-long : tie.Need-sub-t21
 sub-long c =

@@ -35,10 +35,12 @@ demote-requires c κs = let e = c .before .before .before .second-pass .ensures 
 returns : tie.Need-returns
 unfolding evict
 returns c =
-    let n = c .before .before .before .before .before .before .before .before .before .before .before .before in
+    let second = c .before .before .before .before .before .before in
+    let first = second .before .before .before .before in
+    let n = first .before .before in
     let full = n .before .before .before .before .before .before .pre in
     c .before .before .demote .ensures _
-    (passes-end (stops full) (begins-shown full (n .count .result) (counts n)) (c .before .before .before .before .before .before .before .before .before .before .first-pass .ensures .1) (c .before .before .before .before .before .before .second-pass .ensures .2))
+    (passes-end (stops full) (begins-shown full (n .count .result) (counts n)) (first .first-pass .ensures .1) (second .second-pass .ensures .2))
 
 pub evict-spec : {M : Type 1} → statement M
 evict-spec =

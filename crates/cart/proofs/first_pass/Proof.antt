@@ -38,7 +38,8 @@ moved c =
     first-looks (t .before .before .loop .inv .0) (set t)
     (λ d is. c .t2-head-to-t1 .ensures d _ _ is (set-front (d .t2) (set t d is)))
 
-looked : (c : tie.After-raise Inv-loop μ-loop) → let l = c .before .before .before .before .before .before .before .before .before .before .loop in
+looked : (c : tie.After-raise Inv-loop μ-loop)
+    → let l = c .before .before .before .before .before .before .before .before .before .before .loop in
     Looked Holds Cart.firstLook (l .dir) (l .now) (c .raise .last .0) (afterMove (l .now .short) (l .now .long) (l .now .hand .cleared + 1) (l .now))
 looked c = moved (c .before .before .before .before) .looked (c .raise .last .0) (c .raise .ensures)
 

@@ -8,17 +8,17 @@ use Rattle.cart.proofs.oldest.Tie as tie
 returns : tie.Need-returns
 returns c =
     let a = c .before .args in
-    sym (oldest-above (a .q) (a .k1) (a .k2) (c .if1 .taken))
+    (sym (oldest-above (a .q) (a .k1) (a .k2) (c .if1 .taken)), omega arith, omega arith)
 
 returns-2 : tie.Need-returns-2
 returns-2 c =
     let a = c .before .before .args in
-    sym (oldest-empty (a .q) (a .k1) (a .k2) (omega arith) (omega arith))
+    (sym (oldest-empty (a .q) (a .k1) (a .k2) (omega arith) (omega arith)), omega arith, omega arith)
 
 returns-3 : tie.Need-returns-3
 returns-3 c =
     let a = c .before .before .args in
-    sym (oldest-other (a .q) (a .k1) (a .k2) (omega arith) (λ e. omega arith))
+    (sym (oldest-other (a .q) (a .k1) (a .k2) (omega arith) (λ e. omega arith)), omega arith, omega arith)
 
 pub oldest-spec : {M : Type 1} → statement M
 oldest-spec = tie.close (tie.spec returns returns-2 returns-3)

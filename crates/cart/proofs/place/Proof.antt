@@ -17,7 +17,9 @@ use Rattle.cart.proofs.place.Tie as tie
 -- What the page that comes back leaves of the directory that the words held.
 returned : (c : tie.After-come-back) → let a = c .before .before .before .args in let w = a .dir .now in
     Returned (decode w) (a .page) (newLong (a .page)) T1 (a .short .0) (a .long .0) w (c .come-back .last .0) (c .come-back .result)
-returned c = let s = c .before .before .before in c .come-back .ensures (decode (s .args .dir .now)) (newLong (s .args .page)) _ _ (s .pre .0 .is) refl refl refl refl
+returned c =
+    let s = c .before .before .before in
+    c .come-back .ensures (decode (s .args .dir .now)) (newLong (s .args .page)) _ _ (s .pre .0 .is) refl refl refl refl
 
 raise-requires : tie.Need-raise-requires
 raise-requires c κs =
