@@ -52,8 +52,8 @@ module _ {x : ℕ} {w w₁ : List ℕ} {nS : ShortCount} {nL : LongCount} where
   unchanged (from-b2 lacks found holds) is = absurd (omega arith)
   unchanged (is-new not-b1 not-b2 same) is = same
 
-  pub raise-ready : {kind : ℕ} → Returned (decode w) x (newLong x) T1 (nS .0) (nL .0) w w₁ kind → kind ≡ 4 → Freed w → CountsFit w nS nL
-      → Room w₁ × Raisable w₁ (nS .0)
+  pub raise-ready : {kind : ℕ} → Returned (decode w) x (newLong x) T1 (nS .0) (nL .0) w w₁ kind → kind ≡ 4
+      → Freed w → CountsFit w nS nL → Room w₁ × Raisable w₁ (nS .0)
   raise-ready (from-b1 found holds) is free fit = absurd (omega arith)
   raise-ready (is-new not-b1 not-b2 same) is free fit = absurd (omega arith)
   raise-ready (from-b2 lacks found holds) is free fit =

@@ -41,7 +41,8 @@ module _ (d : Directory) {w : List ℕ} (b : ℕ) (is : Holds d w) (named : name
       let some : 1 ≤ ∣ listOf (nameOf b) d ∣ = rw named-in-d (oldest-has-head d (omega arith)) in
       omega (arith, length-of-list b d w is known)
 
-  pub head-dropped : {w′ : List ℕ} → HeadDropped b w w′ → cached d + remembered d ≤ 2 * d .c → remembered d ≡ d .c + 1 → Holds (trim d) w′
+  pub head-dropped : {w′ : List ℕ} → HeadDropped b w w′ → cached d + remembered d ≤ 2 * d .c
+      → remembered d ≡ d .c + 1 → Holds (trim d) w′
   head-dropped dropped fits full = rw (trims d full, ← named-in-d) (dropped d is fits)
 
 pub not-dropped : (d : Directory) {w : List ℕ} → Holds d w → ¬ (remembered d ≡ d .c + 1) → Holds (trim d) w

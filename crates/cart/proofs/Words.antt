@@ -57,7 +57,8 @@ module _ (i : ℕ) (d : Directory) {w : List ℕ} (is : Holds d w) (known : i �
   pub head-flags-none : getD w (4 + i) 0 ≡ 0 → 0 ≡ flags (frontOf (listOf (nameOf i) d))
   head-flags-none none = no-flags (listOf (nameOf i) d) (omega (arith, length-of-list i d w is known))
 
-  pub head-flags-some : 1 ≤ getD w (4 + i) 0 → {at : ℕ} → at ≡ startOf i w → getD w (at + 1) 0 ≡ flags (frontOf (listOf (nameOf i) d))
+  pub head-flags-some : 1 ≤ getD w (4 + i) 0 → {at : ℕ} → at ≡ startOf i w
+      → getD w (at + 1) 0 ≡ flags (frontOf (listOf (nameOf i) d))
   head-flags-some some start =
       let h = head-at i d is known some start in
       h .flags-word ∙ ap (λ (l : List Entry). flags (frontOf l)) (sym (h .front))
@@ -67,8 +68,8 @@ module _ {i : ℕ} {w : List ℕ} (known : i ≤ 1) (some : 1 ≤ getD w (4 + i)
   pub head-inside : Room w → startOf i w + 2 ≤ ∣ w ∣
   head-inside room = omega (arith, room, start-of-next w i (omega arith), starts-within w (i + 1))
 
-  pub head-demoted : {w′ : List ℕ} {at f : ℕ} → at ≡ startOf i w → Becomes demoted (getD w (at + 1) 0) f → HeadMoved i (i + 2) f w w′
-      → HeadDemoted i (getD w at 0) w w′
+  pub head-demoted : {w′ : List ℕ} {at f : ℕ} → at ≡ startOf i w → Becomes demoted (getD w (at + 1) 0) f
+      → HeadMoved i (i + 2) f w w′ → HeadDemoted i (getD w at 0) w w′
   head-demoted start becomes moved d is =
       let l = listOf (nameOf i) d in
       let h = head-at i d is (omega arith) some start in

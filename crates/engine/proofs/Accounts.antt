@@ -117,8 +117,8 @@ pub counts-cached : {d : Directory} {k : Kept} → Accounts d k → k .short .0 
 counts-cached {d} a = omega (arith, short-and-long (d .t1), short-and-long (d .t2))
 
 -- A head of T1 that is S counts among the S pages, and a page of T2, which is L, among the L pages.
-pub short-counted : {d : Directory} {k : Kept} {e : Entry} {es : List Entry} → Accounts d k → d .t1 ≡ e ∷ es → isLong (e .filter) ≡ false
-    → 1 ≤ k .short .0
+pub short-counted : {d : Directory} {k : Kept} {e : Entry} {es : List Entry} → Accounts d k → d .t1 ≡ e ∷ es
+    → isLong (e .filter) ≡ false → 1 ≤ k .short .0
 short-counted {e = e} a front not-long = omega (arith, a .shorts, ap (total short) front, ap shortOf (is-short (e .filter) not-long))
 
 pub long-counted : {d : Directory} {k : Kept} → Accounts d k → 1 ≤ ∣ d .t2 ∣ → 1 ≤ k .long .0

@@ -17,7 +17,8 @@ use Rattle.engine.specs.declared.counts.LongCount.{LongCount}
 use Rattle.engine.specs.declared.counts.Kept.{Kept}
 use Rattle.engine.specs.Shown.{Makes}
 use Rattle.engine.specs.Passes.{frontOf, headTo, goesOn, Accounts, Keeps, Passing, ShowsHand, Looked}
-use Rattle.engine.proofs.Accounts.{is-long, is-short, afterMove, set-bits, clear-bits, t2-to-t1, t1-round, t1-to-t2, raise-keeps, lower-keeps}
+use Rattle.engine.proofs.Accounts.{is-long, is-short, set-bits, clear-bits}
+use Rattle.engine.proofs.Accounts.{afterMove, t2-to-t1, t1-round, t1-to-t2, raise-keeps, lower-keeps}
 
 -- A list that is not empty, or whose head goes on, has one.
 pub some-front : (l : List Entry) → 1 ≤ ∣ l ∣ → l ≡ frontOf l ∷ dropHead l
@@ -108,7 +109,7 @@ module _ {W : Type 0} {Shows : Directory → W → Type 0} {w : W} {k : Kept} (p
       → Moved Shows look change w k w₁ (afterMove nS nL bits k)
   moved-by {change = change} nS nL bits keeps steps =
       let shown : ShowsHand Shows shown-hand w k =
-      record { shown = p .shown; keeps = record { short-is = refl; long-is = refl; counts = record { moves-is = refl; cleared-is = refl } } } in
+      record { shown = p .shown; keeps = omega arith } in
       let s = steps shown-hand shown in
       let between = s .accounts (p .accounts) in
       record {
@@ -145,7 +146,8 @@ module _ {W : Type 0} {Shows : Directory → W → Type 0} {w : W} {k : Kept} (p
   -- T1's head, its bit clear and its filter L.
   pub look-settles : {w₁ : W} → ((d : Directory) → Shows d w → goesOn (frontOf (d .t1)) ≡ true)
       → ((d : Directory) → Shows d w → frontOf (d .t1) .bit ≡ false)
-      → Makes Shows (headTo T1 T2 cleared) w w₁ → Moved Shows secondLook lower w k w₁ (afterMove (k .short) (k .long) (k .hand .cleared) k)
+      → Makes Shows (headTo T1 T2 cleared) w w₁
+      → Moved Shows secondLook lower w k w₁ (afterMove (k .short) (k .long) (k .hand .cleared) k)
   look-settles goes clear makes =
       moved-by (k .short) (k .long) (k .hand .cleared) lower-keeps
       (λ h holds.
@@ -165,7 +167,8 @@ module _ {W : Type 0} {Shows : Directory → W → Type 0} {w : W} {k : Kept} (p
   -- T1's head, its bit set: it stays S or L, or becomes L.
   pub look-goes-round : {w₁ : W} → ((d : Directory) → Shows d w → frontOf (d .t1) .bit ≡ true)
       → ((d : Directory) → Shows d w → isLong (frontOf (d .t1) .filter) ≡ false → becomesLong d ≡ false)
-      → Makes Shows (headTo T1 T1 cleared) w w₁ → Moved Shows secondLook (λ d. d) w k w₁ (afterMove (k .short) (k .long) (k .hand .cleared + 1) k)
+      → Makes Shows (headTo T1 T1 cleared) w w₁
+      → Moved Shows secondLook (λ d. d) w k w₁ (afterMove (k .short) (k .long) (k .hand .cleared + 1) k)
   look-goes-round set stays makes =
       moved-by (k .short) (k .long) (k .hand .cleared + 1) (λ d a. a)
       (λ h holds.

@@ -18,7 +18,9 @@ module _ (d : Directory) where
   oldest = oldestOf (d .q) ∣ d .b1 ∣ ∣ d .b2 ∣
 
   abbrev without-oldest : Directory
-  without-oldest = if ltb (d .q) ∣ d .b1 ∣ || eqb ∣ d .b2 ∣ 0 then withList B1 (dropHead (d .b1)) d else withList B2 (dropHead (d .b2)) d
+  without-oldest =
+      if ltb (d .q) ∣ d .b1 ∣ || eqb ∣ d .b2 ∣ 0 then withList B1 (dropHead (d .b1)) d
+      else withList B2 (dropHead (d .b2)) d
 
   named : (t : Bool) → let i = if t then B1 else B2 in
       (if t then withList B1 (dropHead (d .b1)) d else withList B2 (dropHead (d .b2)) d) ≡ withList i (dropHead (listOf i d)) d

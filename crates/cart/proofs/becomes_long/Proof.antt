@@ -11,7 +11,8 @@ returns c d e is of = rw (sym (c .before .long .ensures e of) ∙ c .if1 .taken)
 returns-2 : tie.Need-returns-2
 returns-2 c d e is of =
     let t = c .before .before .before .before in
-    rw (sym (t .before .long .ensures e of) ∙ t .if1 .left) (becomes-long-read d is (c .before .least .result) (c .before .least .ensures))
+    rw (sym (t .before .long .ensures e of) ∙ t .if1 .left)
+    (becomes-long-read d is (c .before .least .result) (c .before .least .ensures))
 
 pub becomes-long-spec : {M : Type 1} → statement M
 becomes-long-spec =

@@ -40,7 +40,8 @@ returns c =
     let n = first .before .before in
     let full = n .before .before .before .before .before .before .pre in
     c .before .before .demote .ensures _
-    (passes-end (stops full) (begins-shown full (n .count .result) (counts n)) (first .first-pass .ensures .1) (second .second-pass .ensures .2))
+    (passes-end (stops full) (begins-shown full (n .count .result) (counts n))
+    (first .first-pass .ensures .1) (second .second-pass .ensures .2))
 
 pub evict-spec : {M : Type 1} → statement M
 evict-spec =

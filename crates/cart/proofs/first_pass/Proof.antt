@@ -40,7 +40,8 @@ moved c =
 
 looked : (c : tie.After-raise Inv-loop μ-loop)
     → let l = c .before .before .before .before .before .before .before .before .before .before .loop in
-    Looked Holds Cart.firstLook (l .dir) (l .now) (c .raise .last .0) (afterMove (l .now .short) (l .now .long) (l .now .hand .cleared + 1) (l .now))
+    Looked Holds Cart.firstLook (l .dir) (l .now) (c .raise .last .0)
+    (afterMove (l .now .short) (l .now .long) (l .now .hand .cleared + 1) (l .now))
 looked c = moved (c .before .before .before .before) .looked (c .raise .last .0) (c .raise .ensures)
 
 loop-holds : tie.Need-loop-holds Inv-loop μ-loop

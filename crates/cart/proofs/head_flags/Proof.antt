@@ -9,7 +9,8 @@ use Rattle.cart.proofs.head_flags.Statement.{statement}
 use Rattle.cart.proofs.head_flags.Tie as tie
 
 -- A head that is there stands within the words.
-inside : (c : tie.After-start-of) → let a = c .before .before .before .before .args in startOf (a .i) (a .dir .now) + 2 ≤ length (a .dir .now)
+inside : (c : tie.After-start-of) → let a = c .before .before .before .before .args in
+    startOf (a .i) (a .dir .now) + 2 ≤ length (a .dir .now)
 inside c = let s = c .before .before .before .before in head-inside (s .pre .1) (omega arith) (s .pre .0)
 
 returns : tie.Need-returns
@@ -17,7 +18,8 @@ returns c d is = head-flags-none (c .before .before .before .args .i) d is (omeg
 
 returns-2 : tie.Need-returns-2
 returns-2 c d is =
-    head-flags-some (c .before .before .before .before .before .args .i) d is (omega arith) (omega arith) (c .before .start-of .ensures)
+    let s = c .before .before .before .before .before in
+    head-flags-some (s .args .i) d is (omega arith) (omega arith) (c .before .start-of .ensures)
 
 pub head-flags-spec : {M : Type 1} → statement M
 head-flags-spec =

@@ -11,9 +11,10 @@ use Rattle.cart.proofs.miss.Tie as tie
 
 returns : tie.Need-returns
 returns c =
-    let s = c .before .before .before .before .before .before .before .before .before .before .before in
+    let out = c .before .before .before .before .before .before .before .before in
+    let s = out .before .before .before in
     let z = evict (decode (s .args .dir .now)) in
-    let e = c .before .before .before .before .before .before .before .before .evict .ensures in
+    let e = out .evict .ensures in
     tells-missed Holds cartPolicy (s .args .page) z _ (e .evicted)
     (c .before .before .place .ensures z (e .evicted .shown) (e .short-is) (e .long-is))
 
@@ -22,6 +23,6 @@ miss-spec =
     tie.close
     (tie.spec
     (λ c κs. search needs)
-    (λ c κs. opened (c .before .before .before .before .before .before .before .before .pre) (c .before .before .before .before .before .evict .ensures))
+    (λ c κs. let out = c .before .before .before .before .before in opened (out .before .before .before .pre) (out .evict .ensures))
     (λ c. search needs)
     returns)

@@ -15,8 +15,10 @@ use Rattle.cart.proofs.place.Statement.{statement}
 use Rattle.cart.proofs.place.Tie as tie
 
 -- What the page that comes back leaves of the directory that the words held.
-returned : (c : tie.After-come-back) → let a = c .before .before .before .args in let w = a .dir .now in
-    Returned (decode w) (a .page) (newLong (a .page)) T1 (a .short .0) (a .long .0) w (c .come-back .last .0) (c .come-back .result)
+returned : (c : tie.After-come-back) → let a = c .before .before .before .args in
+    let w = a .dir .now in
+    let r = c .come-back in
+    Returned (decode w) (a .page) (newLong (a .page)) T1 (a .short .0) (a .long .0) w (r .last .0) (r .result)
 returned c =
     let s = c .before .before .before in
     c .come-back .ensures (decode (s .args .dir .now)) (newLong (s .args .page)) _ _ (s .pre .0 .is) refl refl refl refl
@@ -37,28 +39,33 @@ returns c h is short long =
 trim-requires : tie.Need-trim-requires
 trim-requires c κs =
     let t = c .before in
-    subst Freed (sym (unchanged (returned (t .before .before .before .before)) (t .if2 .taken))) (t .before .before .before .before .before .before .before .pre .0)
+    let b = t .before .before .before .before in
+    subst Freed (sym (unchanged (returned b) (t .if2 .taken))) (b .before .before .before .pre .0)
 
 place-new-requires : tie.Need-place-new-requires
 place-new-requires c κs =
     let t = c .before .before .before .before .before in
-    let f = t .before .before .before .before .before .before .before .pre .0 in
-    let w = t .before .before .before .before .before .before .before .args .dir .now in
+    let b = t .before .before .before .before in
+    let f = b .before .before .before .pre .0 in
+    let w = b .before .before .before .args .dir .now in
     let d = decode w in
     let h = header d w (f .is) in
-    room-for-new d (Cart.trim d) (c .before .before .before .trim .ensures d (f .is ∙ sym (unchanged (returned (t .before .before .before .before)) (t .if2 .taken))))
+    let same = unchanged (returned b) (t .if2 .taken) in
+    room-for-new d (Cart.trim d) (c .before .before .before .trim .ensures d (f .is ∙ sym same))
     (trim-fits d (omega (arith, f .one-free)) (omega (arith, f .history-most))) (omega (arith, f .c-most))
 
 returns-2 : tie.Need-returns-2
 returns-2 c h is short long =
-    let t = c .before .before .before .before .before .before .before .before in
+    let trimmed = c .before .before .before .before .before .before in
+    let t = trimmed .before .before in
     let b = t .before .before .before .before in
     new-page (b .come-back .ensures (h .dir) (newLong _) _ _ is refl refl short long) (t .if2 .taken)
-    (λ same. c .before .before .place-new .ensures (Cart.trim (h .dir)) (c .before .before .before .before .before .before .trim .ensures (h .dir) (is ∙ sym same)))
+    (λ same. c .before .before .place-new .ensures (Cart.trim (h .dir)) (trimmed .trim .ensures (h .dir) (is ∙ sym same)))
 
 returns-3 : tie.Need-returns-3
 returns-3 c h is short long =
-    from-B1 (c .before .before .before .before .come-back .ensures (h .dir) (newLong _) _ _ is refl refl short long) (c .before .if1 .left) (c .if2 .left)
+    let b = c .before .before .before .before in
+    from-B1 (b .come-back .ensures (h .dir) (newLong _) _ _ is refl refl short long) (c .before .if1 .left) (c .if2 .left)
 
 pub place-spec : {M : Type 1} → statement M
 place-spec =

@@ -26,16 +26,22 @@ front c d is = goes-front (d .t1) (c .pre .1 .1 .1 d is)
 t1-there : (c : tie.Start) → 1 ≤ nT1 (c .args .dir .now)
 t1-there c = let p = c .pre .1 .0 in t1-some p (front c (p .dir) (p .shown))
 
-bit-is : (c : tie.After-bit) (d : Directory) → Holds d (c .before .before .before .before .before .before .args .dir .now) → frontOf (d .t1) .bit ≡ c .bit .result
+bit-is : (c : tie.After-bit) (d : Directory) → Holds d (c .before .before .before .before .before .before .args .dir .now)
+    → frontOf (d .t1) .bit ≡ c .bit .result
 bit-is c d is = sym (c .bit .ensures (frontOf (d .t1)) (c .before .before .before .before .before .before .pre .1 .1 .0 d is))
 
-lengthens-is : (c : tie.After-becomes-long) (d : Directory) → Holds d (c .before .before .before .before .before .before .before .before .before .args .dir .now)
+lengthens-is : (c : tie.After-becomes-long) (d : Directory)
+    → Holds d (c .before .before .before .before .before .before .before .before .before .args .dir .now)
     → lengthens (frontOf (d .t1)) d ≡ c .becomes-long .result
-lengthens-is c d is = sym (c .becomes-long .ensures d (frontOf (d .t1)) is (c .before .before .before .before .before .before .before .before .before .pre .1 .1 .0 d is))
+lengthens-is c d is =
+    let s = c .before .before .before .before .before .before .before .before .before in
+    sym (c .becomes-long .ensures d (frontOf (d .t1)) is (s .pre .1 .1 .0 d is))
 
 -- T1's head, L with its bit clear, has moved to T2's tail; `lower` is left to do.
-moved : (c : tie.After-move-head3) → let a = c .before .before .before .before .before .before .before .before .before .args in let k = a .kept in
-    Moved Holds Cart.secondLook Cart.lower (a .dir .now) k (c .move-head3 .last .0) (afterMove (k .short) (k .long) (k .hand .cleared) k)
+moved : (c : tie.After-move-head3) → let a = c .before .before .before .before .before .before .before .before .before .args in
+    let k = a .kept in
+    Moved Holds Cart.secondLook Cart.lower (a .dir .now) k (c .move-head3 .last .0)
+    (afterMove (k .short) (k .long) (k .hand .cleared) k)
 moved c =
     let b = c .before .before .before in
     let s = b .before .before .before .before .before .before in
@@ -43,15 +49,20 @@ moved c =
     (λ d is. c .move-head3 .ensures d (frontOf (d .t1)) (cleared (frontOf (d .t1))) (dropHead (d .t1)) is (front s d is) refl
     (b .before .cleared .ensures (frontOf (d .t1)) (s .pre .1 .1 .0 d is)))
 
-test : (c : tie.Then2) (d : Directory) → Holds d (c .before .before .before .before .before .before .before .before .before .before .args .dir .now)
+test : (c : tie.Then2) (d : Directory)
+    → Holds d (c .before .before .before .before .before .before .before .before .before .before .args .dir .now)
     → (isLong (frontOf (d .t1) .filter) ≡ false) × (Cart.becomesLong d ≡ true)
 test c d is = unless-iff _ _ .0 (lengthens-is (c .before) d is ∙ c .if2 .taken)
 
 becomes-long-requires : tie.Need-becomes-long-requires
-becomes-long-requires c κs = let p = c .before .before .before .before .before .before .before .before .pre .1 .0 in omega (arith, p .accounts, passing-header p, passing-room p)
+becomes-long-requires c κs =
+    let p = c .before .before .before .before .before .before .before .before .pre .1 .0 in
+    omega (arith, p .accounts, passing-header p, passing-room p)
 
 move-head-requires : tie.Need-move-head-requires
-move-head-requires c κs = let s = c .before .before .before .before .before .before .before .before .before .before .before .before in (s .pre .0, omega (arith, t1-there s))
+move-head-requires c κs =
+    let s = c .before .before .before .before .before .before .before .before .before .before .before .before in
+    (s .pre .0, omega (arith, t1-there s))
 
 sub-short : tie.Need-sub-t19
 sub-short c =
@@ -61,7 +72,9 @@ sub-short c =
     short-counted (p .accounts) (front s (p .dir) (p .shown)) (test t (p .dir) (p .shown) .0)
 
 add-long : tie.Need-add-t21
-add-long c = let p = c .before .before .before .before .before .before .before .before .before .before .before .before .before .before .before .before .before .pre .1 .0 in omega (arith, p .accounts, counts-cached (p .accounts))
+add-long c =
+    let p = c .before .before .before .before .before .before .before .before .before .before .before .before .before .before .before .before .before .pre .1 .0 in
+    omega (arith, p .accounts, counts-cached (p .accounts))
 
 returns : tie.Need-returns
 returns c =
@@ -76,7 +89,9 @@ returns c =
     .looked _ (λ d is. is)
 
 move-head-requires-2 : tie.Need-move-head-requires-2
-move-head-requires-2 c κs = let s = c .before .before .before .before .before .before .before .before .before .before .before in (s .pre .0, omega (arith, t1-there s))
+move-head-requires-2 c κs =
+    let s = c .before .before .before .before .before .before .before .before .before .before .before in
+    (s .pre .0, omega (arith, t1-there s))
 
 returns-2 : tie.Need-returns-2
 returns-2 c =
@@ -91,10 +106,14 @@ returns-2 c =
     .looked _ (λ d is. is)
 
 move-head-requires-3 : tie.Need-move-head-requires-3
-move-head-requires-3 c κs = let s = c .before .before .before .before .before .before .before .before in (s .pre .0, omega (arith, t1-there s))
+move-head-requires-3 c κs =
+    let s = c .before .before .before .before .before .before .before .before in
+    (s .pre .0, omega (arith, t1-there s))
 
 lower-requires : tie.Need-lower-requires
-lower-requires c κs = let p = moved (c .before .before .before) .between in omega (arith, p .accounts, passing-header p, passing-room p)
+lower-requires c κs =
+    let p = moved (c .before .before .before) .between in
+    omega (arith, p .accounts, passing-header p, passing-room p)
 
 returns-3 : tie.Need-returns-3
 returns-3 c = moved (c .before .before .before .before .before .before) .looked _ (c .before .before .lower .ensures)
