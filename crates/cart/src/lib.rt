@@ -12,7 +12,7 @@ ghost use Rattle.figures.specs.Cart as Cart;
 ghost use Rattle.figures.specs.Policy.{cartPolicy};
 ghost use Rattle.figures.specs.Request.{missed};
 ghost use Rattle.engine.specs.Shown.{Makes, Tells};
-ghost use Rattle.engine.specs.Passes.{goesOn, oldestOf, Passing, Looked, PassEnds, Evicts, Demotes, Places};
+ghost use Rattle.engine.specs.Passes.{goesOn, oldestOf, Passing, Looked, Passed, Evicts, Demotes, Places};
 ghost use Rattle.entries.specs.Holds.{Holds};
 ghost use Rattle.entries.specs.Stretches.{Room, nameOf};
 ghost use Rattle.entries.specs.Flags.{Says};
@@ -71,7 +71,7 @@ fn lower(dir: &mut [u32])
 fn first_pass(dir: &mut [u32], kept: counts::Kept) -> counts::Kept
     requires { ⌜ Room (now dir) ⌝ }
     requires { ⌜ Passing Holds (now dir) kept ⌝ }
-    ensures { λ r. ⌜ Passing Holds (now (dir .exit)) r × PassEnds Holds Cart.firstLook (now (dir .entry)) kept (now (dir .exit)) r ⌝ }
+    ensures { λ r. ⌜ Passed Holds Cart.firstLook (now (dir .entry)) kept (now (dir .exit)) r ⌝ }
 {
     let mut now = kept;
     let mut f = head_flags(dir, lists::T2);
@@ -146,7 +146,7 @@ fn goes_on(f: u32) -> bool
 fn second_pass(dir: &mut [u32], kept: counts::Kept) -> counts::Kept
     requires { ⌜ Room (now dir) ⌝ }
     requires { ⌜ Passing Holds (now dir) kept ⌝ }
-    ensures { λ r. ⌜ Passing Holds (now (dir .exit)) r × SecondTest false (now (dir .exit)) × PassEnds Holds Cart.secondLook (now (dir .entry)) kept (now (dir .exit)) r ⌝ }
+    ensures { λ r. ⌜ Passed Holds Cart.secondLook (now (dir .entry)) kept (now (dir .exit)) r × SecondTest false (now (dir .exit)) ⌝ }
 {
     let mut now = kept;
     let mut f = head_flags(dir, lists::T1);

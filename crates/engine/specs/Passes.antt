@@ -82,6 +82,11 @@ module _ {W : Type 0} (Shows : Directory → W → Type 0) where
   abbrev pub PassEnds : (Hand → Look) → W → Kept → W → Kept → Type 0
   PassEnds look w k w′ k′ = (h : Hand) → ShowsHand h w k → Ended look h (λ z. ShowsHand z w′ k′)
 
+  -- A whole pass: what Passing says holds again.
+  pub record Passed (look : Hand → Look) (w : W) (k : Kept) (w′ : W) (k′ : Kept) : Type 0 where
+    pub passing : Passing w′ k′
+    pub ends : PassEnds look w k w′ k′
+
   -- The evicted page, its list and what is counted are those of hand z, and the memory shows its directory.
   pub record Evicts (z : Hand) (r : Evicted) (w : W) : Type 0 where
     pub evicted : EvictedAs Shows z (r .out) w

@@ -27,10 +27,10 @@ first-pass-requires c κs =
     (passing-room p, p)
 
 second-pass-requires : tie.Need-second-pass-requires
-second-pass-requires c κs = let p = c .before .before .before .first-pass .ensures .0 in (passing-room p, p)
+second-pass-requires c κs = let p = c .before .before .before .first-pass .ensures .passing in (passing-room p, p)
 
 demote-requires : tie.Need-demote-requires
-demote-requires c κs = let e = c .before .before .before .second-pass .ensures in (passing-room (e .0), (e .0, e .1))
+demote-requires c κs = let e = c .before .before .before .second-pass .ensures in (passing-room (e .0 .passing), (e .0 .passing, e .1))
 
 returns : tie.Need-returns
 unfolding evict
@@ -41,7 +41,7 @@ returns c =
     let full = n .before .before .before .before .before .before .pre in
     c .before .before .demote .ensures _
     (passes-end (stops full) (begins-shown full (n .count .result) (counts n))
-    (first .first-pass .ensures .1) (second .second-pass .ensures .2))
+    (first .first-pass .ensures .ends) (second .second-pass .ensures .0 .ends))
 
 pub evict-spec : {M : Type 1} → statement M
 evict-spec =

@@ -70,11 +70,12 @@ loop-again c =
 
 returns : tie.Need-returns Inv-loop μ-loop
 returns c =
-    let i = c .before .before .loop .inv in (
-      i .0,
-      ends-here (i .1) (λ h holds.
-          first-stops h (sym (c .before .bit .ensures (frontOf (h .dir .t2)) (i .2 (h .dir) (holds .shown))) ∙ c .if1 .left)),
-    )
+    let i = c .before .before .loop .inv in
+    record {
+      passing = i .0;
+      ends = ends-here (i .1) (λ h holds.
+          first-stops h (sym (c .before .bit .ensures (frontOf (h .dir .t2)) (i .2 (h .dir) (holds .shown))) ∙ c .if1 .left));
+    }
 
 pub first-pass-spec : {M : Type 1} → statement M
 first-pass-spec =

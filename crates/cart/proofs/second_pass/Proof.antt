@@ -54,7 +54,8 @@ returns : tie.Need-returns Inv-loop μ-loop
 returns c =
     let i = c .before .before .loop .inv in
     let stands : SecondTest false (c .before .before .loop .dir) = λ d is. tested (c .before) d is ∙ c .if1 .left in
-    (i .0, stands, ends-here (i .1) (λ h holds. second-stops h (stands (h .dir) (holds .shown))))
+    let ends = ends-here (i .1) (λ h holds. second-stops h (stands (h .dir) (holds .shown))) in
+    (record { passing = i .0; ends = ends }, stands)
 
 pub second-pass-spec : {M : Type 1} → statement M
 second-pass-spec =
