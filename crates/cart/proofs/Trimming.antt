@@ -13,7 +13,7 @@ use Rattle.figures.specs.Words.{nB1, nB2}
 use Rattle.figures.specs.Cart.{trim}
 use Rattle.laws.proofs.Cart.{cart-trims}
 use Rattle.engine.specs.Passes.{oldestOf}
-use Rattle.engine.proofs.Trimming.{trims, trims-not, oldest-has-head}
+use Rattle.engine.proofs.CartTrim.{trims, trims-not, oldest-has-head}
 use Rattle.entries.specs.Holds.{Holds}
 use Rattle.entries.specs.Stretches.{nameOf}
 use Rattle.entries.specs.Leaves.{HeadDropped}

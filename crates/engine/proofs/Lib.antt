@@ -1,9 +1,11 @@
--- Laws over any engine: each takes as a parameter how memory shows a directory.
+-- Laws that serve every engine: how memory shows a directory is a parameter, or the law says which one it is to show.
+-- In order: a page placed after the evict part; CAR's choice and looks, and its trim; CART's accounts, its looks, its two
+-- passes, its demotion, and its trim.
 pub mod Placed
 pub mod Choosing
 pub mod CarTrim
-pub mod Passes
 pub mod Accounts
 pub mod Looks
+pub mod Passes
 pub mod Demoting
-pub mod Trimming
+pub mod CartTrim

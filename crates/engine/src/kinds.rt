@@ -1,5 +1,5 @@
-// The kinds of an answer, and the list word that it names an evicted page's list by.
-// The numbers are those of figures/specs/Request and Hand.
+// The kinds of an answer.
+// The numbers are those of figures/specs/Request.
 pub const HIT: u32 = 0;
 
 pub const WITH_ROOM: u32 = 1;

@@ -1,15 +1,13 @@
 -- A run from a fresh directory is accepted, whatever its trace, where all that is lent has room.
 -- Assumes nothing.
 use mathlib.Core.Path.{_≡_, refl, sym, ap, _∙_}
-use mathlib.Core.Bool.{Bool, true, false, _||_}
+use mathlib.Core.Bool.{true}
 use mathlib.Core.List.{List}
 use Prim.Native.Nat.{ℕ, _+_, _*_, _≤_}
 use native.Mathlib.Omega.{arith}
-use lib.Dec.{eqb}
-use borrow.Author.Tests.{le-leb, le-ltb, eq-eqb, eqb-false}
+use borrow.Author.Tests.{le-leb, le-ltb, eq-eqb}
 use Rattle.terms.specs.Choice.{∣_∣}
 use Rattle.terms.specs.Limits.{knownSize}
-use Rattle.terms.specs.Policies.{car, cart, knownPolicy}
 use Rattle.figures.specs.Directory.{Directory, fresh}
 use Rattle.figures.specs.Words.{encode}
 use Rattle.figures.specs.Refusals as Refusals

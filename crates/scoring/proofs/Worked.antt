@@ -1,11 +1,11 @@
 -- The run that document 01 gives to reproduce, and its ledger, by computation.
--- Assumes nothing.
 use mathlib.Core.Path.{refl}
 use Rattle.figures.specs.Directory.{placeNew}
 use Rattle.figures.specs.Hand.{repeat}
 use Rattle.figures.specs.Car as Car
 use Rattle.figures.specs.Request.{missed, serve}
 use Rattle.figures.specs.Run.{runFrom}
+use Rattle.bytes.specs.Bytes.{indexOf}
 use Rattle.sheets.specs.Number.{digitsForm, whole, missCost}
 use Rattle.sheets.specs.Bid.{policyLine, sizeLine, costLine, pageLine, inOrder, meaning}
 use Rattle.sheets.specs.Result.{decimal, milliseconds, resultSheet}
@@ -13,9 +13,9 @@ use Rattle.result.specs.Ledger.{requestLine}
 use Rattle.scoring.specs.Scored.{printed, scored, ledgerLines, requestLines, ledgered, RunToReproduce, WorkedLedger}
 
 pub run-to-reproduce : RunToReproduce
-unfolding placeNew runFrom serve missed repeat Car.evict Car.trim Car.placeB1 Car.placeB2 digitsForm whole missCost policyLine sizeLine costLine pageLine inOrder meaning decimal milliseconds resultSheet printed scored
+unfolding placeNew runFrom serve missed repeat Car.evict Car.trim Car.placeB1 Car.placeB2 digitsForm whole missCost policyLine sizeLine costLine pageLine inOrder meaning decimal milliseconds resultSheet printed scored indexOf
 run-to-reproduce = refl
 
 pub worked-ledger : WorkedLedger
-unfolding placeNew runFrom serve missed repeat Car.evict Car.trim Car.placeB1 Car.placeB2 digitsForm whole missCost policyLine sizeLine costLine pageLine inOrder meaning decimal milliseconds resultSheet requestLine printed scored ledgerLines requestLines ledgered
+unfolding placeNew runFrom serve missed repeat Car.evict Car.trim Car.placeB1 Car.placeB2 digitsForm whole missCost policyLine sizeLine costLine pageLine inOrder meaning decimal milliseconds resultSheet requestLine printed scored ledgerLines requestLines ledgered indexOf
 worked-ledger = refl
