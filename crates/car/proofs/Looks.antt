@@ -3,6 +3,7 @@ use mathlib.Core.Path.{_≡_, refl, sym, _∙_, subst}
 use mathlib.Core.Bool.{Bool, true, false}
 use mathlib.Core.List.{List}
 use Prim.Native.Nat.{ℕ, _+_, _≤_, _<_}
+use native.Mathlib.Omega.{arith}
 use lib.ListN.{getD}
 use Rattle.figures.specs.Entry.{Entry, cleared, demoted, bits}
 use Rattle.figures.specs.Directory.{Directory, Name, listOf, inCache}
@@ -18,7 +19,8 @@ use Rattle.entries.specs.Holds.{Holds}
 use Rattle.entries.specs.Flags.{Says, Becomes}
 use Rattle.entries.specs.Leaves.{HeadMoved}
 use Rattle.entries.specs.Stretches.{nameOf, startOf}
-use Rattle.car.proofs.Heads.{has-head, page-read, flags-read, makes-moved, history-name, list-word}
+use Rattle.entries.proofs.Heads.{page-read, flags-read, head-moved}
+use Rattle.car.proofs.Heads.{has-head, some-length, history-name, list-word}
 
 -- Words L that may be looked at again, with a set bit less than w, and from which the repeat goes on.
 pub record Again (w : List ℕ) (k : Hand) (L : List ℕ) : Type 0 where
@@ -29,29 +31,35 @@ pub record Again (w : List ℕ) (k : Hand) (L : List ℕ) : Type 0 where
 -- The head of list i stands at word `at`; its flags say whether its bit is set.
 module _ {w : List ℕ} {k : Hand} {i at : ℕ} (t : Turning Holds w k) (known : i ≤ 1) (choice : Chosen Holds (nameOf i) w)
     (start : at ≡ startOf i w) (bit : Bool) (says : Says (λ e. e .bit) (getD w (at + 1) 0) bit) where
-  bit-read : (d : Directory) → Holds d w → bit ≡ frontOf (listOf (nameOf i) d) .bit
-  bit-read d is = says (frontOf (listOf (nameOf i) d)) (flags-read t i choice known start d is)
+  abbrev some : 1 ≤ getD w (4 + i) 0
+  some = some-length t i choice known
 
-  flags-become : (change : Entry → Entry) {f : ℕ} → Becomes change (getD w (at + 1) 0) f
-      → (d : Directory) → Holds d w → f ≡ flags (change (frontOf (listOf (nameOf i) d)))
-  flags-become change becomes d is = becomes (frontOf (listOf (nameOf i) d)) (flags-read t i choice known start d is)
+  bit-read : (d : Directory) → Holds d w → bit ≡ frontOf (listOf (nameOf i) d) .bit
+  bit-read d is = says (frontOf (listOf (nameOf i) d)) (flags-read (omega arith) some start d is)
+
+  -- The head moved to list j's tail, its flags changed.
+  makes : (j : ℕ) (change : Entry → Entry) {f : ℕ} {L : List ℕ} → ((e : Entry) → change e .page ≡ e .page)
+      → Becomes change (getD w (at + 1) 0) f → HeadMoved i j f w L → Makes Holds (headTo (nameOf i) (nameOf j) change) w L
+  makes j change same becomes =
+      head-moved (omega arith) some start j _ change same
+      (λ d is. becomes (frontOf (listOf (nameOf i) d)) (flags-read (omega arith) some start d is))
 
   pub look-again : {f : ℕ} {L : List ℕ} → bit ≡ true → Becomes cleared (getD w (at + 1) 0) f → HeadMoved i 1 f w L → Again w k L
-  look-again {f} is becomes moved =
+  look-again is becomes moved =
       let set : (d : Directory) → Holds d w → frontOf (listOf (nameOf i) d) .bit ≡ true = λ d shown. sym (bit-read d shown) ∙ is in
-      let makes = makes-moved t i choice 1 f cleared (λ e. refl) (flags-become cleared becomes) moved in
-      let on = turns-on t (nameOf i) choice (has-head t i choice) set makes in
-      let less = fewer-bits t (nameOf i) choice (has-head t i choice) set makes in
+      let turned = makes 1 cleared (λ e. refl) becomes moved in
+      let on = turns-on t (nameOf i) choice (has-head t i choice) set turned in
+      let less = fewer-bits t (nameOf i) choice (has-head t i choice) set turned in
       record {
         turning = on;
         fewer = rw (decoded (on .dir) (on .shown), decoded (t .dir) (t .shown)) less;
-        rest = goes-on t (nameOf i) choice (has-head t i choice) set makes;
+        rest = goes-on t (nameOf i) choice (has-head t i choice) set turned;
       }
 
   pub look-stops : {f : ℕ} {L : List ℕ} → bit ≡ false → Becomes demoted (getD w (at + 1) 0) f → HeadMoved i (i + 2) f w L
       → EndsFrom Holds w k (record { page = getD w at 0; list = i + 1; hand = demotedOnce k }) L
-  look-stops {f} {L} is becomes moved =
-      let makes = makes-moved t i choice (i + 2) f demoted (λ e. refl) (flags-become demoted becomes) moved in
+  look-stops {L = L} is becomes moved =
+      let demotes = makes (i + 2) demoted (λ e. refl) becomes moved in
       stops-here t (nameOf i) choice (has-head t i choice) (list-word i known) (λ d shown. sym (bit-read d shown) ∙ is)
-      (page-read t i choice known start)
-      (subst (λ (j : Name). Makes Holds (headTo (nameOf i) j demoted) w L) (history-name i known) makes)
+      (page-read (omega arith) some start)
+      (subst (λ (j : Name). Makes Holds (headTo (nameOf i) j demoted) w L) (history-name i known) demotes)

@@ -1,6 +1,6 @@
 -- What the code reads in words that hold a directory and writes there: its tests, its changes of q, a head's flags.
 -- And what room the words of the passes have.
-use mathlib.Core.Path.{_≡_, refl, sym, ap, _∙_}
+use mathlib.Core.Path.{_≡_, refl, ap}
 use mathlib.Core.List.{List, [], _∷_}
 use Prim.Native.Nat.{ℕ, _+_, _-_, _*_, _≤_, _<_, max, min}
 use native.Mathlib.Omega.{arith}
@@ -8,21 +8,19 @@ use lib.ListN.{getD, set}
 use lib.Dec.{leb}
 use borrow.Author.Tests.{le-leb, lt-leb}
 use Rattle.terms.specs.Choice.{∣_∣}
-use Rattle.figures.specs.Entry.{Entry, demoted, dropHead}
+use Rattle.figures.specs.Entry.{Entry, demoted}
 use Rattle.figures.specs.Directory.{Directory, unit, listOf}
 use Rattle.figures.specs.Words.{flags, size, nT1, nT2, nB1, nB2}
 use Rattle.figures.specs.Cart.{raise, lower, becomesLong}
 use Rattle.engine.specs.declared.counts.Kept.{Kept}
 use Rattle.engine.specs.Passes.{frontOf, Passing}
-use Rattle.engine.proofs.Looks.{some-front}
 use Rattle.entries.specs.Holds.{Holds}
 use Rattle.entries.specs.Flags.{Becomes}
 use Rattle.entries.specs.Leaves.{HeadMoved}
 use Rattle.entries.specs.Stretches.{Room, nameOf, startOf}
 use Rattle.entries.proofs.Laid.{Header, header, with-q, length-of-list}
-use Rattle.entries.proofs.Heads.{head-at}
+use Rattle.entries.proofs.Heads.{page-read, flags-read, head-moved}
 use Rattle.entries.proofs.Rooms.{roomy}
-use Rattle.entries.proofs.Starts.{start-of-next, starts-within}
 use Rattle.cart.specs.Passing.{HeadDemoted}
 
 module _ (d : Directory) {w : List ℕ} (is : Holds d w) where
@@ -57,27 +55,15 @@ module _ (i : ℕ) (d : Directory) {w : List ℕ} (is : Holds d w) (known : i �
   pub head-flags-none : getD w (4 + i) 0 ≡ 0 → 0 ≡ flags (frontOf (listOf (nameOf i) d))
   head-flags-none none = no-flags (listOf (nameOf i) d) (omega (arith, length-of-list i d w is known))
 
-  pub head-flags-some : 1 ≤ getD w (4 + i) 0 → {at : ℕ} → at ≡ startOf i w
-      → getD w (at + 1) 0 ≡ flags (frontOf (listOf (nameOf i) d))
-  head-flags-some some start =
-      let h = head-at i d is known some start in
-      h .flags-word ∙ ap (λ (l : List Entry). flags (frontOf l)) (sym (h .front))
-
--- The head of list i: where it stands, and its demotion.
-module _ {i : ℕ} {w : List ℕ} (known : i ≤ 1) (some : 1 ≤ getD w (4 + i) 0) where
-  pub head-inside : Room w → startOf i w + 2 ≤ ∣ w ∣
-  head-inside room = omega (arith, room, start-of-next w i (omega arith), starts-within w (i + 1))
-
-  pub head-demoted : {w′ : List ℕ} {at f : ℕ} → at ≡ startOf i w → Becomes demoted (getD w (at + 1) 0) f
-      → HeadMoved i (i + 2) f w w′ → HeadDemoted i (getD w at 0) w w′
-  head-demoted start becomes moved d is =
-      let l = listOf (nameOf i) d in
-      let h = head-at i d is (omega arith) some start in
-      let front = some-front l (omega (arith, length-of-list i d w is (omega arith))) in (
-        h .page-word ∙ ap (λ (l : List Entry). frontOf l .page) (sym (h .front)),
-        moved d (frontOf l) (demoted (frontOf l)) (dropHead l) is front refl
-            (becomes (frontOf l) (head-flags-some i d is (omega arith) some start)),
-      )
+-- The head of list i demoted.
+pub head-demoted : {i at f : ℕ} {w w′ : List ℕ} → i ≤ 1 → 1 ≤ getD w (4 + i) 0 → at ≡ startOf i w
+    → Becomes demoted (getD w (at + 1) 0) f → HeadMoved i (i + 2) f w w′ → HeadDemoted i (getD w at 0) w w′
+head-demoted {i} {f = f} known some start becomes moved d is =
+    let there : i ≤ 3 = omega arith in (
+      page-read there some start d is,
+      head-moved there some start (i + 2) f demoted (λ e. refl)
+          (λ d is. becomes (frontOf (listOf (nameOf i) d)) (flags-read there some start d is)) moved d is,
+    )
 
 module _ {w : List ℕ} {k : Kept} (p : Passing Holds w k) where
   pub passing-header : Header (p .dir) w

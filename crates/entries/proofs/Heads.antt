@@ -1,35 +1,50 @@
--- The head of a list: its page and flags stand at the list's first two words.
+-- The head of a list: its page and flags stand at the list's first two words, and what a move of it makes.
 -- Over any directory that the words hold.
-use mathlib.Core.Path.{_≡_}
-use mathlib.Core.List.{List, _∷_}
+use mathlib.Core.Path.{_≡_, sym, ap, _∙_}
+use mathlib.Core.List.{List}
 use Prim.Native.Nat.{ℕ, _+_, _≤_}
 use native.Mathlib.Nat.{add-zero}
 use native.Mathlib.Omega.{arith}
 use lib.ListN.{getD}
-use Rattle.figures.specs.Entry.{Entry}
+use Rattle.terms.specs.Choice.{∣_∣}
+use Rattle.figures.specs.Entry.{Entry, dropHead}
 use Rattle.figures.specs.Directory.{Directory, listOf}
 use Rattle.figures.specs.Words.{flags}
+use Rattle.engine.specs.Shown.{Makes}
+use Rattle.engine.specs.Passes.{frontOf, headTo}
+use Rattle.engine.proofs.Looks.{some-front}
 use Rattle.entries.specs.Holds.{Holds}
-use Rattle.entries.specs.Stretches.{nameOf, startOf}
+use Rattle.entries.specs.Leaves.{HeadMoved}
+use Rattle.entries.specs.Stretches.{Room, nameOf, startOf}
 use Rattle.entries.proofs.Laid.{length-of-list}
-use Rattle.entries.proofs.Reading.{Held, list-held, entry-at}
+use Rattle.entries.proofs.Reading.{Held, EntryAt, list-held, entry-at}
+use Rattle.entries.proofs.Starts.{start-of-next, starts-within}
 
--- The head of list i, at words a and a + 1 of w.
-pub record HeadAt (i a : ℕ) (d : Directory) (w : List ℕ) : Type 0 where
-  pub head : Entry
-  pub rest : List Entry
-  pub front : listOf (nameOf i) d ≡ head ∷ rest
-  pub page-word : getD w a 0 ≡ head .page
-  pub flags-word : getD w (a + 1) 0 ≡ flags head
+-- List i, which is not empty, starts at word `at`.
+module _ {i at : ℕ} {w : List ℕ} (known : i ≤ 3) (some : 1 ≤ getD w (4 + i) 0) (start : at ≡ startOf i w) where
+  pub head-inside : Room w → at + 2 ≤ ∣ w ∣
+  head-inside room = omega (arith, room, start-of-next w i known, starts-within w (i + 1))
 
-pub head-at : (i : ℕ) (d : Directory) {w : List ℕ} → Holds d w → i ≤ 3 → 1 ≤ getD w (4 + i) 0 → {a : ℕ} → a ≡ startOf i w → HeadAt i a d w
-head-at i d {w} is known some {a} start =
-    let there : Held w a (listOf (nameOf i) d) = rw start (list-held d w is i known) in
-    let e = entry-at there 0 (omega (arith, length-of-list i d w is known)) in
-    record {
-      head = e .here;
-      rest = _;
-      front = e .front;
-      page-word = rw add-zero at (e .page-word);
-      flags-word = rw add-zero at (e .flags-word);
-    }
+  module _ (d : Directory) (is : Holds d w) where
+    abbrev list : List Entry
+    list = listOf (nameOf i) d
+
+    list-some : 1 ≤ ∣ list ∣
+    list-some = omega (arith, length-of-list i d w is known)
+
+    first : EntryAt w at list 0
+    first = let there : Held w at list = rw start (list-held d w is i known) in entry-at there 0 list-some
+
+    pub page-read : getD w at 0 ≡ frontOf list .page
+    page-read = rw add-zero at (first .page-word) ∙ ap (λ (l : List Entry). frontOf l .page) (sym (first .front))
+
+    pub flags-read : getD w (at + 1) 0 ≡ flags (frontOf list)
+    flags-read = rw add-zero at (first .flags-word) ∙ ap (λ (l : List Entry). flags (frontOf l)) (sym (first .front))
+
+  -- A move to list j's tail, as `change` makes the head, whose flags there are f.
+  pub head-moved : (j f : ℕ) (change : Entry → Entry) {w′ : List ℕ} → ((e : Entry) → change e .page ≡ e .page)
+      → ((d : Directory) → Holds d w → f ≡ flags (change (frontOf (listOf (nameOf i) d))))
+      → HeadMoved i j f w w′ → Makes Holds (headTo (nameOf i) (nameOf j) change) w w′
+  head-moved j f change same flags-are moved d is =
+      let l = listOf (nameOf i) d in
+      moved d (frontOf l) (change (frontOf l)) (dropHead l) is (some-front l (list-some d is)) (same (frontOf l)) (flags-are d is)

@@ -1,5 +1,5 @@
 -- Document 01 and Figures 2 and 3, as definitions: read in this order.
--- Everything the code is proved to do is said here and nowhere else.
+-- With the words of terms/specs, everything the code is proved to do is said here and nowhere else.
 pub mod Entry
 pub mod Directory
 pub mod Words

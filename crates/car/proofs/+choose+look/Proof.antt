@@ -14,7 +14,8 @@ use Rattle.entries.proofs.flags.demoted.Reads as demoted-reads
 use Rattle.entries.proofs.lists.move_head.Reads as move-head-reads
 use Rattle.entries.proofs.lists.start_of.Reads as start-of-reads
 use Rattle.entries.proofs.targets.t1_at_target.Reads as t1-at-target-reads
-use Rattle.car.proofs.Heads.{room, head-within, some-length, first-chosen, second-chosen}
+use Rattle.entries.proofs.Heads.{head-inside}
+use Rattle.car.proofs.Heads.{room, some-length, first-chosen, second-chosen}
 use Rattle.car.proofs.Looks.{Again, look-again, look-stops}
 use Rattle.car.proofs.choose.Reads as choose
 use Rattle.car.proofs.choose.Kinds as choose-kinds
@@ -84,7 +85,9 @@ module _ (t : ℕ) where
       → c .start-of .result + 1 < length (c .before .before .before .args .dir .now)
   within c =
       let s = c .before .before .before in
-      head-within (s .pre .1 .1 .0) (s .args .i) (s .pre .1 .1 .1 .1) (s .pre .1 .1 .1 .0) (c .start-of .ensures)
+      let p = s .pre .1 .1 in
+      let some = some-length (p .0) (s .args .i) (p .1 .1) (p .1 .0) in
+      omega (arith, head-inside (omega (arith, p .1 .0)) some (c .start-of .ensures) (s .pre .1 .0))
 
   look-mul-page : look-lts.Need-mul-page (look-calls t) (look-at t) look.Post
   look-mul-page c = omega (arith, within c)

@@ -1,9 +1,18 @@
 -- The head's page and flags stand at the list's first two words, and its history is two lists further on.
 use borrow.Author.Needs.{needs}
+use Prim.Native.Nat.{_+_, _≤_}
 use native.Mathlib.Omega.{arith}
-use Rattle.cart.proofs.Words.{head-inside, head-demoted}
+use lib.ListN.{length}
+use Rattle.entries.proofs.Heads.{head-inside}
+use Rattle.cart.proofs.Words.{head-demoted}
 use Rattle.cart.proofs.demote_head.Statement.{statement}
 use Rattle.cart.proofs.demote_head.Tie as tie
+
+-- The head stands within the words.
+inside : (c : tie.After-start-of) → c .start-of .result + 2 ≤ length (c .before .before .before .args .dir .now)
+inside c =
+    let s = c .before .before .before in
+    head-inside (omega (arith, s .pre .1 .0)) (s .pre .1 .1) (c .start-of .ensures) (s .pre .0)
 
 returns : tie.Need-returns
 returns c =
@@ -18,11 +27,11 @@ demote-head-spec =
     tie.close
     (tie.spec
     (λ c κs. search needs)
-    (λ c. let s = c .before .before .before in omega (arith, head-inside (s .pre .1 .0) (s .pre .1 .1) (s .pre .0)))
-    (λ c. let s = c .before .before .before .before in omega (arith, head-inside (s .pre .1 .0) (s .pre .1 .1) (s .pre .0)))
-    (λ c. let s = c .before .before .before .before in omega (arith, head-inside (s .pre .1 .0) (s .pre .1 .1) (s .pre .0)))
-    (λ c. let s = c .before .before .before .before in omega (arith, head-inside (s .pre .1 .0) (s .pre .1 .1) (s .pre .0)))
-    (λ c. let s = c .before .before .before .before .before in omega (arith, head-inside (s .pre .1 .0) (s .pre .1 .1) (s .pre .0)))
+    (λ c. omega (arith, inside c))
+    (λ c. omega (arith, inside (c .before)))
+    (λ c. omega (arith, inside (c .before)))
+    (λ c. omega (arith, inside (c .before)))
+    (λ c. omega (arith, inside (c .before .before)))
     (λ c κs. search needs)
     (λ c. search needs)
     (λ c κs. search needs)

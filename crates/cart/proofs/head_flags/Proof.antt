@@ -3,23 +3,24 @@ use borrow.Author.Needs.{needs}
 use Prim.Native.Nat.{_+_, _≤_}
 use native.Mathlib.Omega.{arith}
 use lib.ListN.{length}
-use Rattle.entries.specs.Stretches.{startOf}
-use Rattle.cart.proofs.Words.{head-flags-none, head-flags-some, head-inside}
+use Rattle.entries.proofs.Heads.{head-inside, flags-read}
+use Rattle.cart.proofs.Words.{head-flags-none}
 use Rattle.cart.proofs.head_flags.Statement.{statement}
 use Rattle.cart.proofs.head_flags.Tie as tie
 
 -- A head that is there stands within the words.
-inside : (c : tie.After-start-of) → let a = c .before .before .before .before .args in
-    startOf (a .i) (a .dir .now) + 2 ≤ length (a .dir .now)
-inside c = let s = c .before .before .before .before in head-inside (s .pre .1) (omega arith) (s .pre .0)
+inside : (c : tie.After-start-of) → c .start-of .result + 2 ≤ length (c .before .before .before .before .args .dir .now)
+inside c =
+    let s = c .before .before .before .before in
+    head-inside {i = s .args .i} (omega (arith, s .pre .1)) (omega arith) (c .start-of .ensures) (s .pre .0)
 
 returns : tie.Need-returns
 returns c d is = head-flags-none (c .before .before .before .args .i) d is (omega arith) (c .if1 .taken)
 
 returns-2 : tie.Need-returns-2
 returns-2 c d is =
-    let s = c .before .before .before .before .before in
-    head-flags-some (s .args .i) d is (omega arith) (omega arith) (c .before .start-of .ensures)
+    let i = c .before .before .before .before .before .args .i in
+    flags-read {i = i} (omega arith) (omega arith) (c .before .start-of .ensures) d is
 
 pub head-flags-spec : {M : Type 1} → statement M
 head-flags-spec =
