@@ -5,6 +5,7 @@ ghost use Prim.Native.Nat.{_+_, _*_, _≤_};
 ghost use lib.ListN.{length, take, drop};
 ghost use Rattle.figures.specs.Entry.{differ};
 ghost use Rattle.terms.specs.Choice.{allAtMost};
+ghost use Rattle.figures.specs.Words.{mostFlags};
 ghost use Rattle.figures.specs.Sound.{flagWords};
 ghost use Rattle.entries.specs.Leaves.{OfEntries, FoundAt, Counted};
 use crate::flags;
@@ -42,7 +43,7 @@ pub fn count(dir: &[u32], a: usize, n: usize, flag: u32) -> u32
 // Whether the first n entries have no flags but the known ones.
 pub fn flags_known(dir: &[u32], n: usize) -> bool
     requires { ⌜ (8 + 2 * n ≤ length (now dir)) × (length (now dir) ≤ 4104) ⌝ }
-    ensures { λ r. ⌜ r ≡ allAtMost 3 (flagWords (take (2 * n) (drop 8 (now (dir .entry))))) ⌝ }
+    ensures { λ r. ⌜ r ≡ allAtMost mostFlags (flagWords (take (2 * n) (drop 8 (now (dir .entry))))) ⌝ }
 {
     let mut i = 0;
     while i < n {

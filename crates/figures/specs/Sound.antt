@@ -10,7 +10,7 @@ use Rattle.terms.specs.Limits.{knownSize}
 use Rattle.terms.specs.Policies.{knownPolicy}
 use Rattle.figures.specs.Entry.{bits, noneOf, differ}
 use Rattle.figures.specs.Directory.{unit, listed}
-use Rattle.figures.specs.Words.{decode, size, nT1, nT2, nB1, nB2, used, unused}
+use Rattle.figures.specs.Words.{mostFlags, decode, size, nT1, nT2, nB1, nB2, used, unused}
 use Rattle.figures.specs.Policy.{policyOf}
 
 -- The second word of each entry.
@@ -40,7 +40,7 @@ sound w =
     -- "all listed pages differ"
     ∷ differ (listed (decode w))
     -- "flags are at most 3"
-    ∷ allAtMost 3 (flagWords (take (used w) (drop 8 w)))
+    ∷ allAtMost mostFlags (flagWords (take (used w) (drop 8 w)))
     -- "history entries have no reference bit"
     ∷ noneOf bits (decode w .b1 ++ decode w .b2)
     -- "unused words are zero"

@@ -12,6 +12,10 @@ use Rattle.figures.specs.Directory.{Directory, cached, remembered}
 abbrev pub flags : Entry → ℕ
 flags e = bits e + 2 * long e
 
+-- The largest flags word: all flags set.
+abbrev pub mostFlags : ℕ
+mostFlags = 3
+
 abbrev pub entry : ℕ → ℕ → Entry
 entry page flags = record { page = page; bit = eqb (flags % 2) 1; filter = if eqb (flags / 2 % 2) 1 then L else S }
 

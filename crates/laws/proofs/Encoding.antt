@@ -3,37 +3,55 @@
 use mathlib.Core.Path.{_≡_, refl, sym, ap, _∙_}
 use mathlib.Core.Bool.{Bool, true, false}
 use mathlib.Core.List.{List, [], _∷_, _++_, append-assoc}
-use Prim.Native.Nat.{ℕ, zero, suc, _+_, _-_, _*_, _≤_}
+use Prim.Native.Nat.{ℕ, zero, suc, _+_, _-_, _*_, _/_, _%_, _≤_}
 use native.Mathlib.Nat.{zero-add, suc-add, add-assoc, mul-add}
 use native.Mathlib.Omega.{arith}
 use lib.ListN.{getD, take, drop, replicate, length-append, length-drop, length-replicate, take-append-drop}
 use lib.Seq.{drop-nil, drop-cons, drop-drop, drop-at, take-at}
-use Rattle.terms.specs.Choice.{∣_∣, allAtMost}
+use lib.Dec.{eqb}
+use borrow.Author.Tests.{eqb-true, eqb-false, eq-eqb, ne-eqb}
+use Rattle.terms.specs.Choice.{if_then_else_, ∣_∣, allAtMost}
+use Rattle.terms.proofs.Choice.{by-test}
 use Rattle.terms.proofs.Tests.{reads}
-use Rattle.figures.specs.Entry.{Entry, Filter, S, L}
+use Rattle.figures.specs.Entry.{Entry, Filter, S, L, bits, longOf, long}
 use Rattle.figures.specs.Directory.{Directory, cached, remembered, listed}
-use Rattle.figures.specs.Words.{flags, entry, words, entries, size, nT1, nT2, nB1, nB2, used, unused, zeros, encode, decode}
+use Rattle.figures.specs.Words.{flags, mostFlags, entry, words, entries}
+use Rattle.figures.specs.Words.{size, nT1, nT2, nB1, nB2, used, unused, zeros, encode, decode}
 use Rattle.figures.specs.Sound.{flagWords, sound}
 use Rattle.figures.specs.Demands.{WordsAreDirectories, WordsFit}
+use Rattle.laws.proofs.Lists.{bits-at-most-one}
 
 -- ENTRIES AND THEIR WORDS
 
-entry-flags : (e : Entry) → entry (e .page) (flags e) ≡ e
-entry-flags e = go (e .page) (e .bit) (e .filter)
+-- Each flag by itself: what is read off the word of an entry, and what an entry that is read off a word counts for.
+bit-of-flags : (e : Entry) → entry (e .page) (flags e) .bit ≡ e .bit
+bit-of-flags e = go (e .bit)
   where
-    go : (page : ℕ) (bit : Bool) (filter : Filter)
-        → (let e : Entry = record { page = page; bit = bit; filter = filter } in entry page (flags e) ≡ e)
-    go page true S = refl
-    go page true L = refl
-    go page false S = refl
-    go page false L = refl
+    go : (b : Bool) → eqb (((if b then 1 else 0) + 2 * long e) % 2) 1 ≡ b
+    go true = eq-eqb ((1 + 2 * long e) % 2) 1 (omega arith)
+    go false = ne-eqb ((0 + 2 * long e) % 2) 1 (omega arith)
 
-flags-entry : (page f : ℕ) → f ≤ 3 → flags (entry page f) ≡ f
-flags-entry page zero h = refl
-flags-entry page (suc zero) h = refl
-flags-entry page (suc (suc zero)) h = refl
-flags-entry page (suc (suc (suc zero))) h = refl
-flags-entry page (suc (suc (suc (suc f)))) h = absurd (omega arith)
+filter-of-flags : (e : Entry) → entry (e .page) (flags e) .filter ≡ e .filter
+filter-of-flags e = go (e .filter)
+  where
+    go : (f : Filter) → (if eqb ((bits e + 2 * longOf f) / 2 % 2) 1 then L else S) ≡ f
+    go S = rw (ne-eqb ((bits e + 0) / 2 % 2) 1 (omega (arith, bits-at-most-one e)))
+    go L = rw (eq-eqb ((bits e + 2) / 2 % 2) 1 (omega (arith, bits-at-most-one e)))
+
+entry-flags : (e : Entry) → entry (e .page) (flags e) ≡ e
+entry-flags e = rw (bit-of-flags e, filter-of-flags e)
+
+bits-of-entry : (page f : ℕ) → bits (entry page f) ≡ f % 2
+bits-of-entry page f =
+    by-test (λ n. n ≡ f % 2) (eqb (f % 2) 1) (λ set. omega (arith, eqb-true)) (λ clear. omega (arith, eqb-false))
+
+long-of-entry : (page f : ℕ) → long (entry page f) ≡ f / 2 % 2
+long-of-entry page f =
+    by-test (λ filter. longOf filter ≡ f / 2 % 2) (eqb (f / 2 % 2) 1)
+    (λ is-long. omega (arith, eqb-true)) (λ is-short. omega (arith, eqb-false))
+
+flags-entry : (page f : ℕ) → f ≤ mostFlags → flags (entry page f) ≡ f
+flags-entry page f h = omega (arith, bits-of-entry page f, long-of-entry page f)
 
 pub length-words : (l : List Entry) → ∣ words l ∣ ≡ 2 * ∣ l ∣
 length-words [] = refl
@@ -69,7 +87,7 @@ entries-add (suc m) n [] = rw (suc-add, drop-nil, entries-none n)
 entries-add (suc m) n (page ∷ []) = rw (suc-add, twice-suc, entries-none n)
 entries-add (suc m) n (page ∷ f ∷ w) = rw (suc-add, twice-suc, entries-add m n w)
 
-pub words-entries : (n : ℕ) (w : List ℕ) → 2 * n ≤ ∣ w ∣ → allAtMost 3 (flagWords (take (2 * n) w)) ≡ true
+pub words-entries : (n : ℕ) (w : List ℕ) → 2 * n ≤ ∣ w ∣ → allAtMost mostFlags (flagWords (take (2 * n) w)) ≡ true
     → words (entries n w) ≡ take (2 * n) w
 words-entries zero w h small = refl
 words-entries (suc n) [] h small = absurd (omega arith)
@@ -137,7 +155,8 @@ one-by-one w (suc n) i h = rw (drop-cons w i 0 (omega arith), one-by-one w n (su
 
 -- Lists that fit, known flags, and zeros after them: that much of soundness makes words those of a directory.
 pub shaped : (w : List ℕ) → ∣ w ∣ ≡ 8 + 4 * size w → nT1 w + nT2 w ≤ size w → nB1 w + nB2 w ≤ size w
-    → allAtMost 3 (flagWords (take (used w) (drop 8 w))) ≡ true → allAtMost 0 (unused w) ≡ true → encode (decode w) ≡ w
+    → allAtMost mostFlags (flagWords (take (used w) (drop 8 w))) ≡ true → allAtMost 0 (unused w) ≡ true
+    → encode (decode w) ≡ w
 unfolding decode
 shaped w exact cache history flags-small unused-small =
     let t1 = length-entries (nT1 w) (drop 8 w) (simp length-drop (omega arith)) in

@@ -11,14 +11,15 @@ use lib.Dec.{eqb}
 use borrow.Author.Tests.{eqb-true}
 use Rattle.terms.specs.Choice.{if_then_else_, allAtMost}
 use Rattle.terms.proofs.Tests.{reads}
-use Rattle.figures.specs.Entry.{Entry, Filter, S, L, longOf, total, differ}
+use Rattle.figures.specs.Entry.{Entry, total, differ}
 use Rattle.figures.specs.Directory.{Directory, cached, remembered, listed, inCache}
-use Rattle.figures.specs.Words.{flags, words, used, unused, encode, decode}
+use Rattle.figures.specs.Words.{flags, mostFlags, words, used, unused, encode, decode}
 use Rattle.figures.specs.Car.{carSound}
 use Rattle.figures.specs.Cart.{cartSound}
 use Rattle.figures.specs.Sound.{flagWords, sound}
 use Rattle.figures.specs.Demands.{Sound}
 use Rattle.laws.proofs.Lists.{is, is-itself, total-append, lacks-counts, counts-lacks}
+use Rattle.laws.proofs.Lists.{bits-at-most-one, short-or-long}
 use Rattle.laws.proofs.Facts.{inHistory, CarFacts, CartFacts, Facts}
 use Rattle.laws.proofs.Encoding.{decode-encode, encode-decode, words-fit, used-words, unused-words}
 
@@ -44,16 +45,10 @@ pub differ-iff : (l : List Entry) → (differ l ≡ true) ↔ ((x : ℕ) → tot
 differ-iff l = (differ-counts l, counts-differ l)
 
 -- The tests that hold of every directory's words.
-flags-at-most : (e : Entry) → flags e ≤ 3
-flags-at-most e = go (e .bit) (e .filter)
-  where
-    go : (bit : Bool) (filter : Filter) → (if bit then 1 else 0) + 2 * longOf filter ≤ 3
-    go true S = omega arith
-    go true L = omega arith
-    go false S = omega arith
-    go false L = omega arith
+flags-at-most : (e : Entry) → flags e ≤ mostFlags
+flags-at-most e = omega (arith, bits-at-most-one e, short-or-long (e .filter))
 
-words-small : (l : List Entry) → allAtMost 3 (flagWords (words l)) ≡ true
+words-small : (l : List Entry) → allAtMost mostFlags (flagWords (words l)) ≡ true
 words-small [] = refl
 words-small (e ∷ l) = simp reads (flags-at-most e, words-small l)
 
@@ -62,7 +57,7 @@ zeros-small zero = refl
 zeros-small (suc n) = zeros-small n
 
 module _ (d : Directory) where
-  flags-small : allAtMost 3 (flagWords (take (used (encode d)) (drop 8 (encode d)))) ≡ true
+  flags-small : allAtMost mostFlags (flagWords (take (used (encode d)) (drop 8 (encode d)))) ≡ true
   flags-small = rw used-words (words-small (listed d))
 
   unused-small : allAtMost 0 (unused (encode d)) ≡ true

@@ -1,16 +1,17 @@
--- The answer is whether all flags are at most 3: those before entry i are, so all are if those from i on are.
+-- The answer is whether all flags are known ones: those before entry i are, so all are if those from i on are.
 use mathlib.Core.Path.{_≡_, refl, sym, _∙_}
 use Prim.Native.Nat.{_≤_, _-_}
 use native.Mathlib.Omega.{arith}
 use lib.ListN.{drop}
 use Rattle.terms.specs.Choice.{allAtMost}
+use Rattle.figures.specs.Words.{mostFlags}
 use Rattle.entries.proofs.Bounds.{at-most-not, at-most-later, at-most-end, flagsOf, length-flags, flag-at}
 use borrow.Author.Needs.{needs}
 use Rattle.entries.proofs.search.flags_known.Statement.{statement}
 use Rattle.entries.proofs.search.flags_known.Tie as tie
 
 abbrev Inv-loop : tie.InvT-loop
-Inv-loop dir n i₀ i = (i ≤ n) × (allAtMost 3 (flagsOf n dir) ≡ allAtMost 3 (drop i (flagsOf n dir)))
+Inv-loop dir n i₀ i = (i ≤ n) × (allAtMost mostFlags (flagsOf n dir) ≡ allAtMost mostFlags (drop i (flagsOf n dir)))
 
 abbrev μ-loop : tie.MeasureT-loop
 μ-loop dir n i₀ i = n - i
@@ -24,7 +25,7 @@ returns c =
     let x = c .before .before .before .before .args in
     let many = length-flags (x .n) (x .dir .now) (omega arith) in
     let word = flag-at (x .n) (x .dir .now) (v .i) (omega arith) in
-    sym (v .inv .1 ∙ at-most-not 3 (flagsOf (x .n) (x .dir .now)) (v .i) (omega arith) (omega arith))
+    sym (v .inv .1 ∙ at-most-not mostFlags (flagsOf (x .n) (x .dir .now)) (v .i) (omega arith) (omega arith))
 
 loop-again : tie.Need-loop-again Inv-loop μ-loop
 loop-again c =
@@ -32,14 +33,14 @@ loop-again c =
     let x = c .before .before .before .before .args in
     let many = length-flags (x .n) (x .dir .now) (omega arith) in
     let word = flag-at (x .n) (x .dir .now) (v .i) (omega arith) in
-    (omega arith, v .inv .1 ∙ at-most-later 3 (flagsOf (x .n) (x .dir .now)) (v .i) (omega arith) (omega arith))
+    (omega arith, v .inv .1 ∙ at-most-later mostFlags (flagsOf (x .n) (x .dir .now)) (v .i) (omega arith) (omega arith))
 
 returns-2 : tie.Need-returns-2 Inv-loop μ-loop
 returns-2 c =
     let v = c .before .loop in
     let x = c .before .before .args in
     let many = length-flags (x .n) (x .dir .now) (omega arith) in
-    sym (v .inv .1 ∙ at-most-end 3 (flagsOf (x .n) (x .dir .now)) (v .i) (omega arith))
+    sym (v .inv .1 ∙ at-most-end mostFlags (flagsOf (x .n) (x .dir .now)) (v .i) (omega arith))
 
 pub flags-known-spec : {M : Type 1} → statement M
 flags-known-spec =
