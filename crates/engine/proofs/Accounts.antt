@@ -1,16 +1,17 @@
 -- Every move of CART's passes keeps the accounts: it lowers what the cache may still cost by one at least.
 -- By what is known of the head's bit and filter.
-use mathlib.Core.Path.{_≡_, refl, sym, ap}
-use mathlib.Core.Bool.{Bool, true, false, false≢true}
+use mathlib.Core.Path.{_≡_, ap}
+use mathlib.Core.Bool.{true, false}
 use mathlib.Core.List.{List, _∷_}
 use Prim.Native.Nat.{ℕ, _+_, _-_, _*_, _≤_, min}
 use native.Mathlib.Omega.{arith}
 use lib.Dec.{leb}
-use Rattle.terms.specs.Choice.{if_then_else_, ∣_∣}
+use Rattle.terms.specs.Choice.{∣_∣}
 use Rattle.terms.proofs.Choice.{either}
-use Rattle.figures.specs.Entry.{Entry, Filter, S, L, cleared, isLong, bits, shortOf, longOf, short, long, total}
+use Rattle.figures.specs.Entry.{Entry, L, cleared, isLong, bits, short, long, total}
 use Rattle.figures.specs.Directory.{Directory, T1, T2, withList, withQ, toTail, cached}
 use Rattle.figures.specs.Cart.{cost, raise, lower}
+use Rattle.laws.proofs.Entries.{set-bits, clear-bits, short-filter, long-filter, is-short}
 use Rattle.laws.proofs.Lists.{length-tail, total-tail, short-or-long, short-and-long}
 use Rattle.engine.specs.declared.counts.ShortCount.{ShortCount}
 use Rattle.engine.specs.declared.counts.LongCount.{LongCount}
@@ -20,22 +21,6 @@ use Rattle.engine.specs.Passes.{Accounts}
 -- What is kept after one more move, with these counts and so many bits cleared.
 abbrev pub afterMove : ShortCount → LongCount → ℕ → Kept → Kept
 afterMove nS nL bits k = record { short = nS; long = nL; hand = record { moves = k .hand .moves + 1; cleared = bits } }
-
--- A filter by its test.
-pub is-long : (f : Filter) → isLong f ≡ true → f ≡ L
-is-long S test = absurd (false≢true test)
-is-long L test = refl
-
-pub is-short : (f : Filter) → isLong f ≡ false → f ≡ S
-is-short S test = refl
-is-short L test = absurd (false≢true (sym test))
-
--- What a bit counts for.
-pub set-bits : (e : Entry) → e .bit ≡ true → (bits e ≡ 1) × (cost e ≡ 2)
-set-bits e set = (ap (λ (b : Bool). if b then 1 else 0) set, ap (λ (b : Bool). if b then 2 else long e) set)
-
-pub clear-bits : (e : Entry) → e .bit ≡ false → (bits e ≡ 0) × (cost e ≡ long e)
-clear-bits e clear = (ap (λ (b : Bool). if b then 1 else 0) clear, ap (λ (b : Bool). if b then 2 else long e) clear)
 
 module _ (d : Directory) (e : Entry) (es : List Entry) {k : Kept} where
   -- T2's head, its bit set, to T1's tail.
@@ -91,8 +76,7 @@ module _ (d : Directory) (e : Entry) (es : List Entry) {k : Kept} where
         ap (total long) front,
         ap (total cost) front,
         clear-bits e clear,
-        ap shortOf long-is,
-        ap longOf long-is,
+        long-filter e long-is,
         total-tail short l e′,
         total-tail long l e′,
         total-tail bits l e′,
@@ -119,7 +103,8 @@ counts-cached {d} a = omega (arith, short-and-long (d .t1), short-and-long (d .t
 -- A head of T1 that is S counts among the S pages, and a page of T2, which is L, among the L pages.
 pub short-counted : {d : Directory} {k : Kept} {e : Entry} {es : List Entry} → Accounts d k → d .t1 ≡ e ∷ es
     → isLong (e .filter) ≡ false → 1 ≤ k .short .0
-short-counted {e = e} a front not-long = omega (arith, a .shorts, ap (total short) front, ap shortOf (is-short (e .filter) not-long))
+short-counted {e = e} a front not-long =
+    omega (arith, a .shorts, ap (total short) front, short-filter e (is-short (e .filter) not-long))
 
 pub long-counted : {d : Directory} {k : Kept} → Accounts d k → 1 ≤ ∣ d .t2 ∣ → 1 ≤ k .long .0
 long-counted {d} a some = omega (arith, a .longs, a .t2-long, short-and-long (d .t2))

@@ -12,6 +12,7 @@ use Rattle.figures.specs.Entry.{Entry, cleared, demoted, bits, total, dropHead}
 use Rattle.figures.specs.Directory.{Directory, Name, T1, T2, B1, B2, listOf, inCache, t1AtTarget}
 use Rattle.figures.specs.Hand.{Hand, listWord, turn, demote, again, stop, last, next}
 use Rattle.figures.specs.Car.{look, choose}
+use Rattle.laws.proofs.Entries.{set-bits}
 use Rattle.laws.proofs.Lists.{length-tail, total-tail}
 use Rattle.engine.specs.declared.Hand.{Hand as Counted}
 use Rattle.engine.specs.declared.Evicted.{Evicted}
@@ -59,9 +60,6 @@ module _ (i : Name) (h : Hand) (is-chosen : i ≡ chosen (h .dir)) where
 
 -- READY AGAIN
 
-set-counts : (e : Entry) → e .bit ≡ true → bits e ≡ 1
-set-counts e set = rw set
-
 module _ {k : Counted} (d : Directory) (r : Ready d k) where
   -- The chosen clock has a head.
   pub chosen-some : (i : Name) → i ≡ chosen d → 1 ≤ ∣ listOf i d ∣
@@ -87,7 +85,7 @@ module _ {k : Counted} (d : Directory) (r : Ready d k) where
             arith,
             ap ∣_∣ front,
             ap (total bits) front,
-            set-counts e set,
+            set-bits e set,
             length-tail (d .t2) (cleared e),
             total-tail bits (d .t2) (cleared e),
           )
@@ -101,7 +99,7 @@ module _ {k : Counted} (d : Directory) (r : Ready d k) where
             arith,
             ap ∣_∣ front,
             ap (total bits) front,
-            set-counts e set,
+            set-bits e set,
             length-tail es (cleared e),
             total-tail bits es (cleared e),
           )
@@ -131,7 +129,7 @@ module _ {W : Type 0} {Shows : Directory → W → Type 0} {w w₁ : W} {k : Cou
         let e = frontOf (listOf i (h .dir)) in
         let after =
         rest (turn i T2 cleared e (dropHead (listOf i (h .dir))) h) (makes (h .dir) shown)
-        (omega (arith, counts, set-counts e is-set)) in
+        (omega (arith, counts, set-bits e is-set)) in
         record {
           at = after .at;
           ends = next (looks-again i h (choice (h .dir) shown) (heads (h .dir) shown) is-set) (after .ends);

@@ -7,17 +7,17 @@ use Prim.Native.Nat.{ℕ, _+_, _-_, _*_, _≤_, min}
 use native.Mathlib.Omega.{arith}
 use lib.Dec.{leb}
 use Rattle.terms.specs.Choice.{if_then_else_, ∣_∣}
-use Rattle.figures.specs.Entry.{Entry, Filter, S, L, cleared, madeLong, isLong, shortOf, longOf, short, total, dropHead}
+use Rattle.figures.specs.Entry.{Entry, Filter, S, L, cleared, madeLong, isLong, short, total, dropHead}
 use Rattle.figures.specs.Directory.{Directory, unit, T1, T2}
 use Rattle.figures.specs.Hand.{Hand, withDir, withCounts, turn, Look, again, stop}
 use Rattle.figures.specs.Cart.{raise, lower, becomesLong, passT1, settle, ifLong, lookT1, lookT2, firstLook, secondLook}
+use Rattle.laws.proofs.Entries.{set-bits, clear-bits, short-filter, is-long, is-short}
 use Rattle.laws.proofs.Lists.{length-tail}
 use Rattle.engine.specs.declared.counts.ShortCount.{ShortCount}
 use Rattle.engine.specs.declared.counts.LongCount.{LongCount}
 use Rattle.engine.specs.declared.counts.Kept.{Kept}
 use Rattle.engine.specs.Shown.{Makes}
 use Rattle.engine.specs.Passes.{frontOf, headTo, goesOn, Accounts, Keeps, Passing, ShowsHand, Looked}
-use Rattle.engine.proofs.Accounts.{is-long, is-short, set-bits, clear-bits}
 use Rattle.engine.proofs.Accounts.{afterMove, t2-to-t1, t1-round, t1-to-t2, raise-keeps, lower-keeps}
 
 -- A list that is not empty, or whose head goes on, has one.
@@ -203,7 +203,7 @@ module _ {W : Type 0} {Shows : Directory → W → Type 0} {w : W} {k : Kept} (p
         keeps = omega (arith, holds .keeps, set-bits e (is .0));
         accounts = λ a.
             t1-round (h .dir) e (dropHead l) (madeLong (cleared e)) nS nL front (is .0) refl
-            (omega (arith, ap (total short) front, ap shortOf short-is, a .shorts)) (omega (arith, ap longOf short-is)) a;
+            (omega (arith, ap (total short) front, short-filter e short-is, a .shorts)) (omega (arith, short-filter e short-is)) a;
       })
 
 -- Where the passes stop.

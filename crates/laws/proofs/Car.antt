@@ -1,7 +1,7 @@
 -- CAR's evict, trim and place: the evict part stops by itself and demotes one page, trim leaves room for a new one, and
 -- every outcome of a request keeps what soundness asks of CAR alone.
 use mathlib.Core.Path.{_≡_, refl, _∙_, subst}
-use mathlib.Core.Bool.{Bool, true, false}
+use mathlib.Core.Bool.{true}
 use mathlib.Core.List.{List, [], _∷_}
 use Prim.Native.Nat.{ℕ, _+_, _*_, _≤_, _<_}
 use native.Mathlib.Omega.{arith}
@@ -9,13 +9,14 @@ use lib.Dec.{eqb}
 use borrow.Author.Tests.{eqb-true, eqb-false, eq-eqb, ne-eqb}
 use Rattle.terms.specs.Choice.{∣_∣}
 use Rattle.terms.proofs.Choice.{by-test, either}
-use Rattle.figures.specs.Entry.{Entry, Filter, newShort, bits, long, has, dropHead}
+use Rattle.figures.specs.Entry.{Entry, newShort, cleared, demoted, bits, long, has, dropHead}
 use Rattle.figures.specs.Directory.{Directory, T1, T2, B1, B2, withList, hit, placeNew}
 use Rattle.figures.specs.Directory.{cached, remembered, inCache, t1AtTarget}
 use Rattle.figures.specs.Hand.{Hand, begin, Look, again, stop, none, here, back}
 use Rattle.figures.specs.Car.{look, choose, evict, trim, placeB1, placeB2}
 use Rattle.figures.specs.Demands.{CarStops, T2StaysChosen, Evicts, CarTrimHasHead}
-use Rattle.laws.proofs.Lists.{entryOf, length-tail, length-head-dropped, length-marked, length-without-at-most}
+use Rattle.laws.proofs.Entries.{set-bits, clear-bits}
+use Rattle.laws.proofs.Lists.{length-tail, length-head-dropped, length-marked, length-without-at-most}
 use Rattle.laws.proofs.Lists.{total-tail, total-head-dropped, total-without, total-marked-same}
 use Rattle.laws.proofs.Repeats.{ComesTo, Ended, repeat-ends}
 use Rattle.laws.proofs.Facts.{Shared, CarFacts, Opened, Trimmed}
@@ -44,40 +45,35 @@ module _ (d : Directory) (shared : Shared d) (own : CarFacts d) (full : cached d
   Looked = ComesTo (Turning d) (Outcome d) left
 
   -- A head with its bit set goes to T2's tail.
-  turns : {a : Hand} {t1 t2 : List Entry} (x : ℕ) (f : Filter) → Turning d a → Exchanged (entryOf x true f) f t1 t2 (a .dir)
-      → ∣ t1 ∣ ≤ ∣ a .dir .t1 ∣ → Looked a (again (turnedTo (entryOf x true f) t1 t2 (a .dir .q) (a .nS) (a .nL) a))
-  turns x f t exchanged fewer = record {
-    good = record { turned = turned-on (t .turned) (entryOf x true f) f exchanged; accounted = omega (arith, exchanged long) };
-    less = omega (arith, exchanged bits);
+  turns : {a : Hand} {t1 t2 : List Entry} (e : Entry) → e .bit ≡ true → Turning d a → Exchanged e e t1 t2 (a .dir)
+      → ∣ t1 ∣ ≤ ∣ a .dir .t1 ∣ → Looked a (again (turnedTo e t1 t2 (a .dir .q) (a .nS) (a .nL) a))
+  turns e set t exchanged fewer = record {
+    good = record {
+      turned = turned-on (t .turned) e e refl exchanged;
+      accounted = omega (arith, exchanged long, set-bits e set);
+    };
+    less = omega (arith, exchanged bits, set-bits e set);
   }
-
-  at-t1 : (x : ℕ) (b : Bool) (f : Filter) (es : List Entry) (a : Hand)
-      → let h = holding T1 (entryOf x b f ∷ es) a in Turning d h → Looked h (look T1 B1 (h .dir .t1) h)
-  at-t1 x true f es a t = turns x f t (λ count. omega (arith, total-tail count (a .dir .t2) (entryOf x false f))) (omega arith)
-  at-t1 x false f es a t =
-      let e = entryOf x false f in
-      record {
-        evicted = evicted-t1 shared e es a (t .turned) refl;
-        accounted = omega (arith, total-tail long (a .dir .b1) e, length-tail (a .dir .b1) e);
-      }
-
-  at-t2 : (x : ℕ) (b : Bool) (f : Filter) (es : List Entry) (a : Hand)
-      → let h = holding T2 (entryOf x b f ∷ es) a in Turning d h → Looked h (look T2 B2 (h .dir .t2) h)
-  at-t2 x true f es a t = turns x f t (λ count. omega (arith, total-tail count es (entryOf x false f))) (omega arith)
-  at-t2 x false f es a t =
-      let e = entryOf x false f in
-      record {
-        evicted = evicted-t2 shared e es a (t .turned) refl;
-        accounted = omega (arith, total-tail long (a .dir .b2) e);
-      }
 
   from-t1 : (l : List Entry) (a : Hand) → let h = holding T1 l a in Turning d h → 1 ≤ ∣ l ∣ → Looked h (look T1 B1 l h)
   from-t1 [] a t some = absurd (omega arith)
-  from-t1 (e ∷ es) a t some = at-t1 (e .page) (e .bit) (e .filter) es a t
+  from-t1 (e ∷ es) a t some =
+      by-test (Looked (holding T1 (e ∷ es) a)) (e .bit)
+      (λ set. turns e set t (λ count. omega (arith, total-tail count (a .dir .t2) (cleared e))) (omega arith))
+      (λ clear. record {
+        evicted = evicted-t1 shared e es a (t .turned) (clear-bits e clear .0);
+        accounted = omega (arith, total-tail long (a .dir .b1) (demoted e), length-tail (a .dir .b1) (demoted e));
+      })
 
   from-t2 : (l : List Entry) (a : Hand) → let h = holding T2 l a in Turning d h → 1 ≤ ∣ l ∣ → Looked h (look T2 B2 l h)
   from-t2 [] a t some = absurd (omega arith)
-  from-t2 (e ∷ es) a t some = at-t2 (e .page) (e .bit) (e .filter) es a t
+  from-t2 (e ∷ es) a t some =
+      by-test (Looked (holding T2 (e ∷ es) a)) (e .bit)
+      (λ set. turns e set t (λ count. omega (arith, total-tail count es (cleared e))) (omega arith))
+      (λ clear. record {
+        evicted = evicted-t2 shared e es a (t .turned) (clear-bits e clear .0);
+        accounted = omega (arith, total-tail long (a .dir .b2) (demoted e));
+      })
 
   looks : (a : Hand) → Turning d a → Looked a (choose a)
   looks a t = chosen shared full (Looked a) (t .turned) (from-t1 (a .dir .t1) a t) (from-t2 (a .dir .t2) a t)

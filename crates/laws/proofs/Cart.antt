@@ -10,15 +10,17 @@ use lib.Dec.{leb, ltb, eqb}
 use borrow.Author.Tests.{eqb-true, eqb-false, eq-eqb, ltb-true, ltb-false}
 use Rattle.terms.specs.Choice.{if_then_else_, ∣_∣}
 use Rattle.terms.proofs.Choice.{by-test, by-tests, either}
-use Rattle.figures.specs.Entry.{Entry, Filter, S, L, newLong, cleared, bits, shortOf, longOf, short, long}
+use Rattle.figures.specs.Entry.{Entry, Filter, S, L, newLong, cleared, madeLong, demoted, bits, short, long}
 use Rattle.figures.specs.Entry.{total, has, without, dropHead}
 use Rattle.figures.specs.Directory.{Directory, unit, T1, T2, B1, B2, withP, withQ, withList, toTail}
 use Rattle.figures.specs.Directory.{hit, placeNew, cached, remembered, inCache}
-use Rattle.figures.specs.Hand.{Hand, withDir, turn, Look, again}
-use Rattle.figures.specs.Cart.{raise, becomesLong, cost, owing, firstLook, secondLook, firstPass, secondPass}
+use Rattle.figures.specs.Hand.{Hand, withDir, turn, Look, again, stop}
+use Rattle.figures.specs.Cart.{raise, becomesLong, passT1, settle, ifLong, cost, owing}
+use Rattle.figures.specs.Cart.{firstLook, secondLook, firstPass, secondPass}
 use Rattle.figures.specs.Cart.{demoteT1, demoteT2, demotion, counted, evict, trim, placeB1, placeB2}
 use Rattle.figures.specs.Demands.{Evicts, CartStops, HeadDropped, CartTrimHasHead}
-use Rattle.laws.proofs.Lists.{entryOf, atHead, head-of-tail, short-or-long}
+use Rattle.laws.proofs.Entries.{set-bits, clear-bits, short-filter, long-filter}
+use Rattle.laws.proofs.Lists.{atHead, head-of-tail, short-or-long}
 use Rattle.laws.proofs.Lists.{total-tail, total-without, total-marked-same, total-head-dropped}
 use Rattle.laws.proofs.Repeats.{ComesTo, Ended, repeat-ends}
 use Rattle.laws.proofs.Facts.{Shared, CartFacts, Opened, Trimmed}
@@ -54,16 +56,17 @@ record Passing (d : Directory) (a : Hand) : Type 0 where
   turned : Turned d a
   accounted : Accounted (owing d) a
 
-record TurnKeeps (e : Entry) (f : Filter) (a b : Hand) : Type 0 where
+record TurnKeeps (e e′ : Entry) (a b : Hand) : Type 0 where
   own : CartFacts (b .dir)
-  nS-follows : b .nS + short e ≡ a .nS + shortOf f
-  nL-follows : b .nL + long e ≡ a .nL + longOf f
+  nS-follows : b .nS + short e ≡ a .nS + short e′
+  nL-follows : b .nL + long e ≡ a .nL + long e′
   pays : 1 + owing (b .dir) ≤ owing (a .dir)
 
-turn-keeps : {d : Directory} {a : Hand} {t1 t2 : List Entry} {q nS nL : ℕ} (e : Entry) (f : Filter) → Passing d a
-    → Exchanged e f t1 t2 (a .dir) → let b = turnedTo e t1 t2 q nS nL a in TurnKeeps e f a b → Passing d b
-turn-keeps e f passing exchanged keeps = record {
-  turned = turned-on (passing .turned) e f exchanged;
+turn-keeps : {d : Directory} {a : Hand} {t1 t2 : List Entry} {q nS nL : ℕ} (e e′ : Entry) → e′ .page ≡ e .page
+    → Passing d a → Exchanged e e′ t1 t2 (a .dir)
+    → let b = turnedTo e t1 t2 q nS nL a in TurnKeeps e e′ a b → Passing d b
+turn-keeps e e′ same-page passing exchanged keeps = record {
+  turned = turned-on (passing .turned) e e′ same-page exchanged;
   accounted = omega (arith, exchanged short, exchanged long);
 }
 
@@ -91,74 +94,84 @@ module _ (d : Directory) where
   SecondLooked = ComesTo (Settling d) (Settled d) leftSecond
 
   -- T2's head: with its bit set it goes to T1's tail.
-  at-t2 : (x : ℕ) (b : Bool) (f : Filter) (es : List Entry) (a : Hand)
-      → let h = holding T2 (entryOf x b f ∷ es) a in Passing d h → FirstLooked h (firstLook h)
-  at-t2 x false f es a passing = record { passing = passing; t2-clear = refl }
-  at-t2 x true f es a passing =
-      let e = entryOf x true f in
+  at-t2 : (l : List Entry) (a : Hand) → let h = holding T2 l a in Passing d h → FirstLooked h (firstLook h)
+  at-t2 [] a passing = record { passing = passing; t2-clear = refl }
+  at-t2 (e ∷ es) a passing =
       let t1 = a .dir .t1 in
       let h = holding T2 (e ∷ es) a in
       let h′ = turn T2 T1 cleared e es h in
+      by-test (FirstLooked h) (e .bit)
+      (λ set.
       raise-leaves (λ d′. FirstLooked h (again (withDir d′ h′))) (h′ .nS) (h′ .dir) (passing .accounted .own .q-fits)
       (λ q fits. record {
-        good = turn-keeps e f passing (λ count. omega (arith, total-tail count t1 (cleared e)))
-            (omega (arith, total-tail cost t1 (cleared e), short-or-long (e .filter)));
-        less = omega arith;
-      })
+        good = turn-keeps e e refl passing (λ count. omega (arith, total-tail count t1 (cleared e)))
+            (omega (arith, total-tail cost t1 (cleared e), set-bits e set, short-or-long (e .filter)));
+        less = omega (arith, set-bits e set);
+      }))
+      (λ clear. record { passing = passing; t2-clear = clear-bits e clear .0 })
 
   first-looks : (a : Hand) → Passing d a → FirstLooked a (firstLook a)
-  first-looks a = go (a .dir .t2)
-    where
-      go : (l : List Entry) → let h = holding T2 l a in Passing d h → FirstLooked h (firstLook h)
-      go [] passing = record { passing = passing; t2-clear = refl }
-      go (e ∷ es) passing = at-t2 (e .page) (e .bit) (e .filter) es a passing
+  first-looks a = at-t2 (a .dir .t2) a
 
-  -- T1's head, its bit set, goes to T1's tail, where its filter is f′.
-  round-t1 : (x : ℕ) (f f′ : Filter) (es : List Entry) (a : Hand) (nS nL : ℕ)
-      → nS + shortOf f ≡ a .nS + shortOf f′ → nL + longOf f ≡ a .nL + longOf f′
-      → let h = holding T1 (entryOf x true f ∷ es) a in
-      let t1 = es ++ (entryOf x false f′ ∷ []) in
-      Settling d h → SecondLooked h (again (turnedTo (entryOf x true f) t1 (a .dir .t2) (a .dir .q) nS nL h))
-  round-t1 x f f′ es a nS nL nS-follows nL-follows settling =
-      let e = entryOf x false f′ in
-      record {
-        good = record {
-          passing = turn-keeps (entryOf x true f) f′ (settling .passing) (λ count. omega (arith, total-tail count es e))
-              (omega (arith, total-tail cost es e, short-or-long (e .filter)));
-          t2-clear = settling .t2-clear;
-        };
-        less = omega (arith, total-tail cost es e, short-or-long (e .filter));
-      }
+  module _ (e : Entry) (es : List Entry) (a : Hand) where
+    abbrev held : Hand
+    held = holding T1 (e ∷ es) a
 
-  -- T1's head: with its bit clear it stays if it is S, and goes to T2's tail if it is L.
-  at-t1 : (x : ℕ) (b : Bool) (f : Filter) (es : List Entry) (a : Hand)
-      → let h = holding T1 (entryOf x b f ∷ es) a in Settling d h → SecondLooked h (secondLook h)
-  at-t1 x true S es a settling =
-      let e = entryOf x true S in
-      let h = holding T1 (e ∷ es) a in
-      either (λ b. SecondLooked h (again b)) (becomesLong (turn T1 T1 cleared e es h .dir))
-      (round-t1 x S L es a (a .nS - 1) (a .nL + 1) (omega arith) (omega arith) settling)
-      (round-t1 x S S es a (a .nS) (a .nL) refl refl settling)
-  at-t1 x true L es a settling = round-t1 x L L es a (a .nS) (a .nL) refl refl settling
-  at-t1 x false S es a settling = record { settling = settling; t1-clear = refl }
-  at-t1 x false L es a settling =
-      let e = entryOf x false L in
-      let t2 = a .dir .t2 in
-      record {
-        good = record {
-          passing = turn-keeps e L (settling .passing) (λ count. omega (arith, total-tail count t2 e))
-              (omega (arith, total-tail short t2 e, total-tail bits t2 e));
-          t2-clear = head-of-tail bits t2 e (settling .t2-clear) refl;
-        };
-        less = omega arith;
-      }
+    -- T1's head, its bit set, goes to T1's tail, where it is e′ with its bit clear.
+    round-t1 : e .bit ≡ true → (e′ : Entry) → e′ .page ≡ e .page → (nS nL : ℕ)
+        → nS + short e ≡ a .nS + short e′ → nL + long e ≡ a .nL + long e′ → Settling d held
+        → SecondLooked held (again (turnedTo e (es ++ (cleared e′ ∷ [])) (a .dir .t2) (a .dir .q) nS nL held))
+    round-t1 set e′ same-page nS nL nS-follows nL-follows settling =
+        let bit = set-bits e set in
+        let costs = total-tail cost es (cleared e′) in
+        let filter = short-or-long (e′ .filter) in
+        record {
+          good = record {
+            passing = turn-keeps e e′ same-page (settling .passing)
+                (λ count. omega (arith, total-tail count es (cleared e′))) (omega arith);
+            t2-clear = settling .t2-clear;
+          };
+          less = omega arith;
+        }
+
+    -- It becomes L there if it is S and the test holds.
+    passes-t1 : e .bit ≡ true → Settling d held → (f : Filter) → e .filter ≡ f
+        → SecondLooked held (again (passT1 f e es held))
+    passes-t1 set settling S short-is =
+        let filter = short-filter e short-is in
+        either (λ b. SecondLooked held (again b)) (becomesLong (turn T1 T1 cleared e es held .dir))
+        (round-t1 set (madeLong e) refl (a .nS - 1) (a .nL + 1) (omega arith) (omega arith) settling)
+        (round-t1 set e refl (a .nS) (a .nL) refl refl settling)
+    passes-t1 set settling L long-is = round-t1 set e refl (a .nS) (a .nL) refl refl settling
+
+    -- With its bit clear it stays if it is S, and goes to T2's tail if it is L.
+    settles-t1 : e .bit ≡ false → Settling d held → (f : Filter) → e .filter ≡ f
+        → SecondLooked held (ifLong f (again (settle e es held)) (stop held))
+    settles-t1 clear settling S short-is =
+        record { settling = settling; t1-clear = omega (arith, clear-bits e clear, short-filter e short-is) }
+    settles-t1 clear settling L long-is =
+        let t2 = a .dir .t2 in
+        let e′ = cleared e in
+        let bit = clear-bits e clear in
+        let filter = long-filter e long-is in
+        record {
+          good = record {
+            passing = turn-keeps e e refl (settling .passing) (λ count. omega (arith, total-tail count t2 e′))
+                (omega (arith, total-tail short t2 e′, total-tail bits t2 e′));
+            t2-clear = head-of-tail bits t2 e′ (settling .t2-clear) refl;
+          };
+          less = omega arith;
+        }
+
+  at-t1 : (l : List Entry) (a : Hand) → let h = holding T1 l a in Settling d h → SecondLooked h (secondLook h)
+  at-t1 [] a settling = record { settling = settling; t1-clear = refl }
+  at-t1 (e ∷ es) a settling =
+      by-test (SecondLooked (holding T1 (e ∷ es) a)) (e .bit)
+      (λ set. passes-t1 e es a set settling (e .filter) refl)
+      (λ clear. settles-t1 e es a clear settling (e .filter) refl)
 
   second-looks : (a : Hand) → Settling d a → SecondLooked a (secondLook a)
-  second-looks a = go (a .dir .t1)
-    where
-      go : (l : List Entry) → let h = holding T1 l a in Settling d h → SecondLooked h (secondLook h)
-      go [] settling = record { settling = settling; t1-clear = refl }
-      go (e ∷ es) settling = at-t1 (e .page) (e .bit) (e .filter) es a settling
+  second-looks a = at-t1 (a .dir .t1) a
 
 -- What the evict part leaves.
 
@@ -184,14 +197,14 @@ module _ (d : Directory) (shared : Shared d) (own : CartFacts d) (full : cached 
   from-t1 [] a settled some = absurd (omega arith)
   from-t1 (e ∷ es) a settled some = record {
     evicted = evicted-t1 shared e es a (settled .settling .passing .turned) (omega (arith, cost-counts e));
-    accounted = omega (arith, cost-counts e, short-or-long (e .filter), total-tail long (a .dir .b1) e);
+    accounted = omega (arith, cost-counts e, short-or-long (e .filter), total-tail long (a .dir .b1) (demoted e));
   }
 
   from-t2 : (l : List Entry) (a : Hand) → let h = holding T2 l a in Settled d h → 1 ≤ ∣ l ∣ → Outcome d (demoteT2 l h)
   from-t2 [] a settled some = absurd (omega arith)
   from-t2 (e ∷ es) a settled some = record {
     evicted = evicted-t2 shared e es a (settled .settling .passing .turned) (settled .settling .t2-clear);
-    accounted = omega (arith, short-or-long (e .filter), total-tail short (a .dir .b2) e);
+    accounted = omega (arith, short-or-long (e .filter), total-tail short (a .dir .b2) (demoted e));
   }
 
   demotes : (a : Hand) → Settled d a → Outcome d (demotion a)

@@ -1,4 +1,5 @@
 -- The proofs of what the crate figures states. Each statement's comment in its specs/Demands names the file that proves it.
+pub mod Entries
 pub mod Lists
 pub mod Repeats
 pub mod Encoding

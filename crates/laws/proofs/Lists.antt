@@ -12,10 +12,6 @@ use Rattle.terms.specs.Choice.{if_then_else_, ∣_∣}
 use Rattle.terms.proofs.Choice.{either}
 use Rattle.figures.specs.Entry.{Entry, Filter, S, L, marked, bits, shortOf, longOf, short, long, total, has, mark, without, dropHead}
 
--- An entry by its parts: a law by clauses on the bit and the filter is one on any entry.
-abbrev pub entryOf : ℕ → Bool → Filter → Entry
-entryOf page bit filter = record { page = page; bit = bit; filter = filter }
-
 -- 1 where the entry is for page x.
 abbrev pub is : ℕ → Entry → ℕ
 is x e = if eqb (e .page) x then 1 else 0

@@ -1,7 +1,6 @@
 -- What CAR and CART share: turns of a head to a tail of T1 or T2, the choice between the two, the demotion, the trim.
 -- Each law is over any count of entries, so that a size, which counts ones, needs no law of its own.
 use mathlib.Core.Path.{_≡_, refl, ap}
-use mathlib.Core.Bool.{false}
 use mathlib.Core.List.{List, [], _∷_}
 use Prim.Native.Nat.{ℕ, _+_, _≤_}
 use native.Mathlib.Omega.{arith}
@@ -9,12 +8,12 @@ use lib.Dec.{eqb}
 use borrow.Author.Tests.{leb-true, leb-false}
 use Rattle.terms.specs.Choice.{if_then_else_, ∣_∣}
 use Rattle.terms.proofs.Choice.{by-test}
-use Rattle.figures.specs.Entry.{Entry, Filter, bits, total, dropHead}
+use Rattle.figures.specs.Entry.{Entry, cleared, demoted, bits, total, dropHead}
 use Rattle.figures.specs.Directory.{Directory, Name, T1, T2, B1, B2, withList, withLists, withQ}
 use Rattle.figures.specs.Directory.{cached, remembered, inCache, t1AtTarget}
 use Rattle.figures.specs.Hand.{Hand, begin, withDir, withCounts, demote}
 use Rattle.figures.specs.Demands.{Evicts, byPage, HeadDropped}
-use Rattle.laws.proofs.Lists.{entryOf, is, one, total-tail, total-head-dropped, length-head-dropped}
+use Rattle.laws.proofs.Lists.{is, one, total-tail, total-head-dropped, length-head-dropped}
 use Rattle.laws.proofs.Facts.{inHistory, cached-counts, remembered-counts, Shared, Opened, Trimmed}
 
 -- The hand with l for its list i: with that list itself it is the same hand, so that a law by clauses on l is one on its list.
@@ -55,10 +54,10 @@ turnedTo e t1 t2 q nS nL a = record {
   list = a .list;
 }
 
--- T1 and T2 with these lists hold what they held, but for e its page with a clear bit and filter f.
-abbrev pub Exchanged : Entry → Filter → List Entry → List Entry → Directory → Type 0
-Exchanged e f t1 t2 d =
-    (count : Entry → ℕ) → total count t1 + total count t2 + count e ≡ inCache count d + count (entryOf (e .page) false f)
+-- T1 and T2 with these lists hold what they held, but in place of e they hold e′ with its bit clear.
+abbrev pub Exchanged : Entry → Entry → List Entry → List Entry → Directory → Type 0
+Exchanged e e′ t1 t2 d =
+    (count : Entry → ℕ) → total count t1 + total count t2 + count e ≡ inCache count d + count (cleared e′)
 
 module _ {d : Directory} {a : Hand} (t : Turned d a) where
   still-cached : cached (a .dir) ≡ cached d
@@ -70,15 +69,15 @@ module _ {d : Directory} {a : Hand} (t : Turned d a) where
   still-remembered : (count : Entry → ℕ) → inHistory count (a .dir) ≡ inHistory count d
   still-remembered count = omega (arith, ap (total count) (t .same-b1), ap (total count) (t .same-b2))
 
-  pub turned-on : {t1 t2 : List Entry} {q nS nL : ℕ} (e : Entry) (f : Filter) → Exchanged e f t1 t2 (a .dir)
-      → Turned d (turnedTo e t1 t2 q nS nL a)
-  turned-on e f exchanged = record {
+  pub turned-on : {t1 t2 : List Entry} {q nS nL : ℕ} (e e′ : Entry) → e′ .page ≡ e .page
+      → Exchanged e e′ t1 t2 (a .dir) → Turned d (turnedTo e t1 t2 q nS nL a)
+  turned-on e e′ same-page exchanged = record {
     same-policy = t .same-policy;
     same-c = t .same-c;
     same-p = t .same-p;
     same-b1 = t .same-b1;
     same-b2 = t .same-b2;
-    same-pages = λ read. omega (arith, t .same-pages read, exchanged (λ e. read (e .page)));
+    same-pages = λ read. omega (arith, t .same-pages read, exchanged (λ e. read (e .page)), ap read same-page);
     bits-accounted = omega (arith, exchanged bits);
   }
 
@@ -110,7 +109,7 @@ module _ {d : Directory} (shared : Shared d) where
   evicted : {a : Hand} {list : ℕ} {t1 t2 b1 b2 : List Entry} {nS nL : ℕ} → Turned d a → (e : Entry) → bits e ≡ 0
       → (1 ≤ list) × (list ≤ 2)
       → ((count : Entry → ℕ) → total count t1 + total count t2 + count e ≡ inCache count (a .dir))
-      → ((count : Entry → ℕ) → total count b1 + total count b2 ≡ inHistory count (a .dir) + count e)
+      → ((count : Entry → ℕ) → total count b1 + total count b2 ≡ inHistory count (a .dir) + count (demoted e))
       → Evicted d (demotedTo e list t1 t2 b1 b2 nS nL a)
   evicted {a} {t1 = t1} {t2 = t2} {b1 = b1} {b2 = b2} t e clear named taken given =
       let d′ = withLists t1 t2 b1 b2 (a .dir) in
@@ -138,15 +137,17 @@ module _ {d : Directory} (shared : Shared d) where
         remembers = remembers;
       }
 
-  pub evicted-t1 : {nS nL : ℕ} (e : Entry) (es : List Entry) (a : Hand) → let h = holding T1 (e ∷ es) a in Turned d h → bits e ≡ 0
-      → Evicted d (withCounts nS nL (demote T1 B1 e es h))
+  pub evicted-t1 : {nS nL : ℕ} (e : Entry) (es : List Entry) (a : Hand)
+      → let h = holding T1 (e ∷ es) a in Turned d h → bits e ≡ 0 → Evicted d (withCounts nS nL (demote T1 B1 e es h))
   evicted-t1 e es a t clear =
-      evicted t e clear (omega arith) (λ count. omega arith) (λ count. omega (arith, total-tail count (a .dir .b1) e))
+      evicted t e clear (omega arith) (λ count. omega arith)
+      (λ count. omega (arith, total-tail count (a .dir .b1) (demoted e)))
 
-  pub evicted-t2 : {nS nL : ℕ} (e : Entry) (es : List Entry) (a : Hand) → let h = holding T2 (e ∷ es) a in Turned d h → bits e ≡ 0
-      → Evicted d (withCounts nS nL (demote T2 B2 e es h))
+  pub evicted-t2 : {nS nL : ℕ} (e : Entry) (es : List Entry) (a : Hand)
+      → let h = holding T2 (e ∷ es) a in Turned d h → bits e ≡ 0 → Evicted d (withCounts nS nL (demote T2 B2 e es h))
   evicted-t2 e es a t clear =
-      evicted t e clear (omega arith) (λ count. omega arith) (λ count. omega (arith, total-tail count (a .dir .b2) e))
+      evicted t e clear (omega arith) (λ count. omega arith)
+      (λ count. omega (arith, total-tail count (a .dir .b2) (demoted e)))
 
 -- A trim takes the head of one history, or nothing.
 
