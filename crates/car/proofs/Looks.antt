@@ -12,7 +12,7 @@ use Rattle.laws.proofs.Encoding.{decoded}
 use Rattle.engine.specs.declared.Hand.{Hand}
 use Rattle.engine.specs.declared.Evicted.{Evicted}
 use Rattle.engine.specs.Shown.{Makes}
-use Rattle.engine.specs.Passes.{frontOf, headTo}
+use Rattle.engine.specs.Heads.{frontOf, headTo}
 use Rattle.engine.specs.Choosing.{Turning, Chosen, EndsFrom}
 use Rattle.engine.proofs.Choosing.{turnedOnce, demotedOnce, turns-on, fewer-bits, goes-on, stops-here}
 use Rattle.entries.specs.Holds.{Holds}

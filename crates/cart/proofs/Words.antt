@@ -13,7 +13,8 @@ use Rattle.figures.specs.Directory.{Directory, unit, listOf}
 use Rattle.figures.specs.Words.{flags, size, nT1, nT2, nB1, nB2}
 use Rattle.figures.specs.Cart.{raise, lower, becomesLong}
 use Rattle.engine.specs.declared.counts.Kept.{Kept}
-use Rattle.engine.specs.Passes.{frontOf, Passing}
+use Rattle.engine.specs.Heads.{frontOf}
+use Rattle.engine.specs.Passes.{Passing}
 use Rattle.entries.specs.Holds.{Holds}
 use Rattle.entries.specs.Flags.{Becomes}
 use Rattle.entries.specs.Leaves.{HeadMoved}

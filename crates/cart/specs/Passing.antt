@@ -12,7 +12,8 @@ use Rattle.figures.specs.Words.{flags, size, nT1, nT2}
 use Rattle.figures.specs.Cart.{becomesLong}
 use Rattle.engine.specs.declared.counts.ShortCount.{ShortCount}
 use Rattle.engine.specs.declared.counts.LongCount.{LongCount}
-use Rattle.engine.specs.Passes.{frontOf, headTo, goesOn}
+use Rattle.engine.specs.Heads.{frontOf, headTo}
+use Rattle.engine.specs.Passes.{goesOn}
 use Rattle.entries.specs.Holds.{Holds}
 use Rattle.entries.specs.Stretches.{nameOf}
 

@@ -2,7 +2,7 @@
 -- Over what memory shows, and over the chosen clock.
 use mathlib.Core.Path.{_≡_, refl, ap, _∙_}
 use mathlib.Core.Bool.{Bool, true, false}
-use mathlib.Core.List.{List, [], _∷_}
+use mathlib.Core.List.{List}
 use Prim.Native.Nat.{ℕ, _+_, _≤_, _<_}
 use native.Mathlib.Omega.{arith}
 use borrow.Author.Tests.{leb-true, leb-false}
@@ -17,8 +17,9 @@ use Rattle.laws.proofs.Lists.{length-tail, total-tail}
 use Rattle.engine.specs.declared.Hand.{Hand as Counted}
 use Rattle.engine.specs.declared.Evicted.{Evicted}
 use Rattle.engine.specs.Shown.{Makes}
-use Rattle.engine.specs.Passes.{frontOf, headTo}
+use Rattle.engine.specs.Heads.{frontOf, headTo}
 use Rattle.engine.specs.Choosing.{chosen, historyOf, Ready, Turning, Chosen, EndsFrom}
+use Rattle.engine.proofs.Heads.{some-front}
 
 -- What is counted after a turn, which clears a bit, and after the demotion, which clears none.
 abbrev pub turnedOnce : Counted → Counted
@@ -28,10 +29,6 @@ abbrev pub demotedOnce : Counted → Counted
 demotedOnce k = record { moves = k .moves + 1; cleared = k .cleared }
 
 -- THE DEFINITION'S LOOK, at the chosen clock
-
-pub front-of : (l : List Entry) → 1 ≤ ∣ l ∣ → l ≡ frontOf l ∷ dropHead l
-front-of [] some = absurd (omega arith)
-front-of (e ∷ es) some = refl
 
 module _ (i : Name) (h : Hand) (is-chosen : i ≡ chosen (h .dir)) where
   abbrev clock : List Entry
@@ -49,7 +46,7 @@ module _ (i : Name) (h : Hand) (is-chosen : i ≡ chosen (h .dir)) where
     at-head : choose h
         ≡ (if frontOf clock .bit then again (turn i T2 cleared (frontOf clock) (dropHead clock) h)
         else stop (demote i (historyOf i) (frontOf clock) (dropHead clock) h))
-    at-head = looks ∙ ap (λ (l : List Entry). look i (historyOf i) l h) (front-of clock some)
+    at-head = looks ∙ ap (λ (l : List Entry). look i (historyOf i) l h) (some-front clock some)
 
     looks-again : frontOf clock .bit ≡ true → choose h ≡ again (turn i T2 cleared (frontOf clock) (dropHead clock) h)
     looks-again set = at-head ∙ rw set refl
@@ -79,7 +76,7 @@ module _ {k : Counted} (d : Directory) (r : Ready d k) where
     where
       from-t1 : 1 ≤ ∣ d .t1 ∣ → frontOf (d .t1) .bit ≡ true → TurnedReady T1
       from-t1 some set =
-          let front = front-of (d .t1) some in
+          let front = some-front (d .t1) some in
           let e = frontOf (d .t1) in
           omega (
             arith,
@@ -92,7 +89,7 @@ module _ {k : Counted} (d : Directory) (r : Ready d k) where
 
       from-t2 : 1 ≤ ∣ d .t2 ∣ → frontOf (d .t2) .bit ≡ true → TurnedReady T2
       from-t2 some set =
-          let front = front-of (d .t2) some in
+          let front = some-front (d .t2) some in
           let e = frontOf (d .t2) in
           let es = dropHead (d .t2) in
           omega (

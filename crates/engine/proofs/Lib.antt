@@ -1,7 +1,8 @@
 -- Laws that serve every engine: how memory shows a directory is a parameter, or the law says which one it is to show.
--- In order: a page placed after the evict part; CAR's choice and looks, and its trim; CART's accounts, its looks, its two
--- passes, its demotion, and its trim.
+-- In order: a page placed after the evict part; the head of a list; CAR's choice and looks, and its trim; CART's
+-- accounts, its looks, its two passes, its demotion, and its trim.
 pub mod Placed
+pub mod Heads
 pub mod Choosing
 pub mod CarTrim
 pub mod Accounts

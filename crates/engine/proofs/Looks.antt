@@ -3,7 +3,7 @@
 use mathlib.Core.Path.{_≡_, refl, sym, ap, _∙_}
 use mathlib.Core.Bool.{Bool, true, false, _||_, false≢true}
 use mathlib.Core.List.{List, [], _∷_}
-use Prim.Native.Nat.{ℕ, _+_, _-_, _*_, _≤_, min}
+use Prim.Native.Nat.{ℕ, _+_, _-_, _*_, min}
 use native.Mathlib.Omega.{arith}
 use lib.Dec.{leb}
 use Rattle.terms.specs.Choice.{if_then_else_, ∣_∣}
@@ -17,13 +17,11 @@ use Rattle.engine.specs.declared.counts.ShortCount.{ShortCount}
 use Rattle.engine.specs.declared.counts.LongCount.{LongCount}
 use Rattle.engine.specs.declared.counts.Kept.{Kept}
 use Rattle.engine.specs.Shown.{Makes}
-use Rattle.engine.specs.Passes.{frontOf, headTo, goesOn, Accounts, Keeps, Passing, ShowsHand, Looked}
+use Rattle.engine.specs.Heads.{frontOf, headTo}
+use Rattle.engine.specs.Passes.{goesOn, Accounts, Keeps, Passing, ShowsHand, Looked}
 use Rattle.engine.proofs.Accounts.{afterMove, t2-to-t1, t1-round, t1-to-t2, raise-keeps, lower-keeps}
 
--- A list that is not empty, or whose head goes on, has one.
-pub some-front : (l : List Entry) → 1 ≤ ∣ l ∣ → l ≡ frontOf l ∷ dropHead l
-some-front [] some = absurd (omega arith)
-some-front (e ∷ es) some = refl
+-- A list whose head has its bit set, or goes on, has one.
 
 pub set-front : (l : List Entry) → frontOf l .bit ≡ true → l ≡ frontOf l ∷ dropHead l
 set-front [] set = absurd (false≢true set)

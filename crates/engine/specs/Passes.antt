@@ -2,12 +2,11 @@
 -- Any hand that memory and counts show may be meant: a promise is one about each of them.
 use mathlib.Core.Path.{_≡_}
 use mathlib.Core.Bool.{Bool, _||_}
-use mathlib.Core.List.{List, [], _∷_}
 use Prim.Native.Nat.{ℕ, _+_, _*_, _≤_}
 use lib.Dec.{ltb, eqb}
 use Rattle.terms.specs.Choice.{if_then_else_}
-use Rattle.figures.specs.Entry.{Entry, newShort, isLong, bits, short, long, total, dropHead}
-use Rattle.figures.specs.Directory.{Directory, Name, B1, B2, unit, listOf, withList, toTail, cached, remembered, inCache}
+use Rattle.figures.specs.Entry.{Entry, isLong, bits, short, long, total}
+use Rattle.figures.specs.Directory.{Directory, Name, B1, B2, unit, cached, remembered, inCache}
 use Rattle.figures.specs.Hand.{Hand, Look, again}
 use Rattle.figures.specs.Cart.{cost, demotion}
 use Rattle.figures.specs.Policy.{cartPolicy}
@@ -16,15 +15,6 @@ use Rattle.engine.specs.declared.counts.LongCount.{LongCount}
 use Rattle.engine.specs.declared.counts.Kept.{Kept}
 use Rattle.engine.specs.declared.counts.Evicted.{Evicted}
 use Rattle.engine.specs.Shown.{Counts, Ended, EvictedAs, PlacedAs}
-
--- The head of a list, and of an empty one a head at which both passes stop: S with its bit clear.
-abbrev pub frontOf : List Entry → Entry
-frontOf [] = newShort 0
-frontOf (e ∷ es) = e
-
--- The head of list i, as f makes it, becomes the tail of list j.
-abbrev pub headTo : Name → Name → (Entry → Entry) → Directory → Directory
-headTo i j f d = toTail j (f (frontOf (listOf i d))) (withList i (dropHead (listOf i d)) d)
 
 -- The history that trim takes from: B1 where |B1| > q or B2 is empty, else B2.
 abbrev pub oldestOf : ℕ → ℕ → ℕ → Name

@@ -11,8 +11,8 @@ use Rattle.figures.specs.Entry.{Entry, dropHead}
 use Rattle.figures.specs.Directory.{Directory, listOf}
 use Rattle.figures.specs.Words.{flags}
 use Rattle.engine.specs.Shown.{Makes}
-use Rattle.engine.specs.Passes.{frontOf, headTo}
-use Rattle.engine.proofs.Looks.{some-front}
+use Rattle.engine.specs.Heads.{frontOf, headTo}
+use Rattle.engine.proofs.Heads.{some-front}
 use Rattle.entries.specs.Holds.{Holds}
 use Rattle.entries.specs.Leaves.{HeadMoved}
 use Rattle.entries.specs.Stretches.{Room, nameOf, startOf}

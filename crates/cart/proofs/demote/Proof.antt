@@ -4,9 +4,10 @@ use mathlib.Core.Path.{_≡_, sym, _∙_}
 use native.Mathlib.Omega.{arith}
 use Rattle.figures.specs.Entry.{dropHead}
 use Rattle.figures.specs.Directory.{Directory, t1AtTarget}
-use Rattle.engine.specs.Passes.{frontOf}
+use Rattle.engine.specs.Heads.{frontOf}
 use Rattle.engine.proofs.Accounts.{short-counted, long-counted}
-use Rattle.engine.proofs.Looks.{some-front, stands}
+use Rattle.engine.proofs.Heads.{some-front}
+use Rattle.engine.proofs.Looks.{stands}
 use Rattle.engine.proofs.Demoting.{at-target-some, under-target-some, demotes-T1, demotes-T2}
 use Rattle.entries.specs.Holds.{Holds}
 use Rattle.entries.proofs.Laid.{header}

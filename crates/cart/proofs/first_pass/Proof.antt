@@ -8,7 +8,8 @@ use native.Mathlib.Omega.{arith}
 use lib.ListN.{length}
 use Rattle.figures.specs.Directory.{Directory}
 use Rattle.figures.specs.Cart as Cart
-use Rattle.engine.specs.Passes.{frontOf, Passing, Looked}
+use Rattle.engine.specs.Heads.{frontOf}
+use Rattle.engine.specs.Passes.{Passing, Looked}
 use Rattle.engine.proofs.Accounts.{afterMove, counts-cached}
 use Rattle.engine.proofs.Looks.{Moved, set-front, first-looks, first-stops}
 use Rattle.engine.proofs.Passes.{Underway, begins, goes-on, ends-here}

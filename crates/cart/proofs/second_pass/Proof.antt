@@ -7,7 +7,8 @@ use Prim.Native.Nat.{_-_}
 use native.Mathlib.Omega.{arith}
 use lib.ListN.{length}
 use Rattle.figures.specs.Cart as Cart
-use Rattle.engine.specs.Passes.{frontOf, Passing}
+use Rattle.engine.specs.Heads.{frontOf}
+use Rattle.engine.specs.Passes.{Passing}
 use Rattle.engine.proofs.Looks.{second-stops}
 use Rattle.engine.proofs.Passes.{Underway, begins, goes-on, ends-here}
 use Rattle.entries.specs.Holds.{Holds}

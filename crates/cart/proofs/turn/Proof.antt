@@ -10,7 +10,7 @@ use Rattle.figures.specs.Entry.{cleared, madeLong, isLong, dropHead}
 use Rattle.figures.specs.Directory.{Directory}
 use Rattle.figures.specs.Words.{nT1}
 use Rattle.figures.specs.Cart as Cart
-use Rattle.engine.specs.Passes.{frontOf}
+use Rattle.engine.specs.Heads.{frontOf}
 use Rattle.engine.proofs.Accounts.{afterMove, counts-cached, short-counted}
 use Rattle.engine.proofs.Looks.{Moved, goes-front, look-settles, look-goes-round, look-makes-long}
 use Rattle.entries.specs.Holds.{Holds}
