@@ -1,7 +1,7 @@
 -- Words and directories are two forms of one thing: what is encoded decodes to itself, and sound words are those of a directory.
 -- The four lists are read at once where they can be: the words of all listed entries are the words in use.
 use mathlib.Core.Path.{_≡_, refl, sym, ap, _∙_}
-use mathlib.Core.Bool.{Bool, true, false}
+use mathlib.Core.Bool.{true}
 use mathlib.Core.List.{List, [], _∷_, _++_, append-assoc}
 use Prim.Native.Nat.{ℕ, zero, suc, _+_, _-_, _*_, _/_, _%_, _≤_}
 use native.Mathlib.Nat.{zero-add, suc-add, add-assoc, mul-add}
@@ -9,34 +9,31 @@ use native.Mathlib.Omega.{arith}
 use lib.ListN.{getD, take, drop, replicate, length-append, length-drop, length-replicate, take-append-drop}
 use lib.Seq.{drop-nil, drop-cons, drop-drop, drop-at, take-at}
 use lib.Dec.{eqb}
-use borrow.Author.Tests.{eqb-true, eqb-false, eq-eqb, ne-eqb}
+use borrow.Author.Tests.{eqb-true, eqb-false}
 use Rattle.terms.specs.Choice.{if_then_else_, ∣_∣, allAtMost}
 use Rattle.terms.proofs.Choice.{by-test}
 use Rattle.terms.proofs.Tests.{reads}
-use Rattle.figures.specs.Entry.{Entry, Filter, S, L, bits, longOf, long}
+use Rattle.figures.specs.Entry.{Entry, S, L, bits, longOf, long}
 use Rattle.figures.specs.Directory.{Directory, cached, remembered, listed}
 use Rattle.figures.specs.Words.{flags, mostFlags, entry, words, entries}
 use Rattle.figures.specs.Words.{size, nT1, nT2, nB1, nB2, used, unused, zeros, encode, decode}
 use Rattle.figures.specs.Sound.{flagWords, sound}
 use Rattle.figures.specs.Demands.{WordsAreDirectories, WordsFit}
-use Rattle.laws.proofs.Lists.{bits-at-most-one}
+use Rattle.laws.proofs.Entries.{bit-counts, filter-counts}
+use Rattle.laws.proofs.Lists.{bits-at-most-one, short-or-long}
 
 -- ENTRIES AND THEIR WORDS
 
 -- Each flag by itself: what is read off the word of an entry, and what an entry that is read off a word counts for.
 bit-of-flags : (e : Entry) → entry (e .page) (flags e) .bit ≡ e .bit
-bit-of-flags e = go (e .bit)
-  where
-    go : (b : Bool) → eqb (((if b then 1 else 0) + 2 * long e) % 2) 1 ≡ b
-    go true = eq-eqb ((1 + 2 * long e) % 2) 1 (omega arith)
-    go false = ne-eqb ((0 + 2 * long e) % 2) 1 (omega arith)
+bit-of-flags e =
+    let read : flags e % 2 ≡ bits e = omega (arith, bits-at-most-one e) in
+    ap (λ n. eqb n 1) read ∙ bit-counts e
 
 filter-of-flags : (e : Entry) → entry (e .page) (flags e) .filter ≡ e .filter
-filter-of-flags e = go (e .filter)
-  where
-    go : (f : Filter) → (if eqb ((bits e + 2 * longOf f) / 2 % 2) 1 then L else S) ≡ f
-    go S = rw (ne-eqb ((bits e + 0) / 2 % 2) 1 (omega (arith, bits-at-most-one e)))
-    go L = rw (eq-eqb ((bits e + 2) / 2 % 2) 1 (omega (arith, bits-at-most-one e)))
+filter-of-flags e =
+    let read : flags e / 2 % 2 ≡ long e = omega (arith, bits-at-most-one e, short-or-long (e .filter)) in
+    ap (λ n. if eqb n 1 then L else S) read ∙ filter-counts e
 
 entry-flags : (e : Entry) → entry (e .page) (flags e) ≡ e
 entry-flags e = rw (bit-of-flags e, filter-of-flags e)

@@ -2,6 +2,7 @@
 -- Each flag by itself, so that a further flag adds no cases to the others.
 use mathlib.Core.Path.{_≡_, refl, sym, ap}
 use mathlib.Core.Bool.{Bool, true, false, false≢true}
+use lib.Dec.{eqb}
 use Rattle.terms.specs.Choice.{if_then_else_}
 use Rattle.figures.specs.Entry.{Entry, Filter, S, L, isLong, bits, shortOf, longOf, short, long}
 use Rattle.figures.specs.Cart.{cost}
@@ -17,6 +18,21 @@ short-filter e is = (ap shortOf is, ap longOf is)
 
 pub long-filter : (e : Entry) → e .filter ≡ L → (short e ≡ 0) × (long e ≡ 1)
 long-filter e is = (ap shortOf is, ap longOf is)
+
+-- The bit and the filter by what they count for.
+pub bit-counts : (e : Entry) → eqb (bits e) 1 ≡ e .bit
+bit-counts e = go (e .bit)
+  where
+    go : (b : Bool) → eqb (if b then 1 else 0) 1 ≡ b
+    go true = refl
+    go false = refl
+
+pub filter-counts : (e : Entry) → (if eqb (long e) 1 then L else S) ≡ e .filter
+filter-counts e = go (e .filter)
+  where
+    go : (f : Filter) → (if eqb (longOf f) 1 then L else S) ≡ f
+    go S = refl
+    go L = refl
 
 -- A filter by its test.
 pub is-long : (f : Filter) → isLong f ≡ true → f ≡ L
