@@ -7,7 +7,7 @@ use Prim.Native.Nat.{ℕ, _+_, _-_, _*_, _≤_, max}
 use native.Mathlib.Omega.{arith}
 use borrow.Author.Tests.{leb-true, leb-false}
 use Rattle.terms.specs.Choice.{∣_∣}
-use Rattle.figures.specs.Entry.{Entry}
+use Rattle.figures.specs.Entry.{Entry, demoted}
 use Rattle.figures.specs.Directory.{Directory, unit, T1, T2, B1, B2, withList, toTail, t1AtTarget}
 use Rattle.figures.specs.Hand.{Hand, withCounts, demote}
 use Rattle.figures.specs.Cart.{demotion}
@@ -39,7 +39,7 @@ module _ (h : Hand) (e : Entry) (es : List Entry) where
 
 module _ {W : Type 0} {Shows : Directory → W → Type 0} {w w₁ : W} {k : Kept} (h : Hand) (e : Entry) (es : List Entry) {page : ℕ}
     (holds : ShowsHand Shows h w k) (page-is : page ≡ e .page) where
-  pub demotes-T1 : t1AtTarget (h .dir) ≡ true → h .dir .t1 ≡ e ∷ es → Shows (toTail B1 e (withList T1 es (h .dir))) w₁
+  pub demotes-T1 : t1AtTarget (h .dir) ≡ true → h .dir .t1 ≡ e ∷ es → Shows (toTail B1 (demoted e) (withList T1 es (h .dir))) w₁
       → Evicts Shows (demotion h) (evictedAs page 1 (k .short .0 - 1) (k .long .0) k) w₁
   demotes-T1 test front shown =
       rw (from-t1 h e es test front) (record {
@@ -48,7 +48,7 @@ module _ {W : Type 0} {Shows : Directory → W → Type 0} {w w₁ : W} {k : Kep
         long-is = holds .keeps .long-is;
       })
 
-  pub demotes-T2 : t1AtTarget (h .dir) ≡ false → h .dir .t2 ≡ e ∷ es → Shows (toTail B2 e (withList T2 es (h .dir))) w₁
+  pub demotes-T2 : t1AtTarget (h .dir) ≡ false → h .dir .t2 ≡ e ∷ es → Shows (toTail B2 (demoted e) (withList T2 es (h .dir))) w₁
       → Evicts Shows (demotion h) (evictedAs page 2 (k .short .0) (k .long .0 - 1) k) w₁
   demotes-T2 test front shown =
       rw (from-t2 h e es test front) (record {

@@ -1,12 +1,10 @@
 -- A flags word and its entry: what is read off the word, and what the word with a flag set or taken away is.
 -- Each flag by itself, so that a further flag adds no cases to the others.
 use mathlib.Core.Path.{_≡_, refl}
-use mathlib.Core.Bool.{Bool, true, false}
 use Prim.Native.Nat.{ℕ, zero, suc, _+_, _-_, _*_, _/_, _%_, _≤_}
 use native.Mathlib.Omega.{arith}
 use lib.Dec.{eqb}
-use Rattle.terms.specs.Choice.{if_then_else_}
-use Rattle.figures.specs.Entry.{Entry, Filter, S, L, bits, longOf, long, isLong, marked, cleared, madeLong}
+use Rattle.figures.specs.Entry.{Entry, Filter, S, L, longOf, long, isLong, marked, cleared, madeLong}
 use Rattle.figures.specs.Words.{flags}
 use Rattle.laws.proofs.Lists.{bits-at-most-one}
 use Rattle.entries.specs.Flags.{ofFlag}
@@ -18,13 +16,6 @@ long-at-most e = go (e .filter)
     go : (filter : Filter) → longOf filter ≤ 1
     go S = omega arith
     go L = omega arith
-
-pub bit-counts : (e : Entry) → eqb (bits e) 1 ≡ e .bit
-bit-counts e = go (e .bit)
-  where
-    go : (bit : Bool) → eqb (if bit then 1 else 0) 1 ≡ bit
-    go true = refl
-    go false = refl
 
 pub long-counts : (e : Entry) → eqb (long e) 1 ≡ isLong (e .filter)
 long-counts e = go (e .filter)

@@ -5,7 +5,7 @@ use mathlib.Core.Bool.{Bool, true}
 use mathlib.Core.List.{List}
 use Prim.Native.Nat.{ℕ}
 use lib.ListN.{take, drop}
-use Rattle.figures.specs.Words.{used, unused}
+use Rattle.figures.specs.Words.{mostFlags, used, unused}
 use Rattle.terms.specs.Choice.{allAtMost}
 use Rattle.terms.proofs.Tests.{reads}
 use Rattle.figures.specs.Sound.{flagWords, sound}
@@ -14,7 +14,7 @@ use Rattle.soundness.proofs.Tests.{agree}
 use Rattle.soundness.specs.Orderly.{Orderly, sizesFit, Held, entriesSound}
 
 abbrev pub flagsKnown : List ℕ → Bool
-flagsKnown w = allAtMost 3 (flagWords (take (used w) (drop 8 w)))
+flagsKnown w = allAtMost mostFlags (flagWords (take (used w) (drop 8 w)))
 
 abbrev pub restZero : List ℕ → Bool
 restZero w = allAtMost 0 (unused w)

@@ -1,6 +1,6 @@
 -- What the bit counts for is 1 where it is set.
 use borrow.Author.Needs.{needs}
-use Rattle.entries.proofs.Flagged.{bit-counts}
+use Rattle.laws.proofs.Entries.{bit-counts}
 use Rattle.entries.proofs.flags.bit.Statement.{statement}
 use Rattle.entries.proofs.flags.bit.Tie as tie
 
