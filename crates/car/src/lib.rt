@@ -115,11 +115,5 @@ pub fn miss(dir: &mut [u32], page: u32) -> engine::Served
 {
     let out = evict(dir);
     let kind = place(dir, page);
-    engine::Served {
-        kind,
-        page: out.page,
-        list: out.list,
-        moves: out.hand.moves,
-        cleared: out.hand.cleared,
-    }
+    engine::answer_of(kind, out)
 }

@@ -284,14 +284,6 @@ pub fn miss(dir: &mut [u32], page: u32) -> engine::Served
     ensures { λ r. ⌜ Tells Holds (missed cartPolicy page (Cart.evict (decode (now (dir .entry))))) r (now (dir .exit)) ⌝ }
 {
     let e = evict(dir);
-    let short = e.short;
-    let long = e.long;
-    let kind = place(dir, page, short, long);
-    engine::Served {
-        kind,
-        page: e.out.page,
-        list: e.out.list,
-        moves: e.out.hand.moves,
-        cleared: e.out.hand.cleared,
-    }
+    let kind = place(dir, page, e.short, e.long);
+    engine::answer_of(kind, e.out)
 }

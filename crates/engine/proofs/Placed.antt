@@ -10,7 +10,7 @@ use Rattle.figures.specs.Policy.{Policy}
 use Rattle.figures.specs.Request.{Served, missed}
 use Rattle.laws.proofs.Requests.{missed-B1, missed-B2, missed-new, missed-page, missed-list, missed-moves, missed-cleared}
 use Rattle.engine.specs.declared.Evicted.{Evicted}
-use Rattle.engine.specs.Shown.{EvictedAs, PlacedAs, Tells}
+use Rattle.engine.specs.Shown.{servedOf, EvictedAs, PlacedAs, Tells}
 
 module _ {W : Type 0} (Shows : Directory → W → Type 0) (π : Policy) (x : ℕ) (h : Hand) {w : W} where
   placed-as : {s : Served} → missed π x h ≡ s → Shows (s .dir) w → PlacedAs Shows π x h (s .kind) w
@@ -31,8 +31,7 @@ module _ {W : Type 0} (Shows : Directory → W → Type 0) (π : Policy) (x : �
 
   -- The whole answer: the evicted page, its list and what was counted are the hand's.
   pub tells-missed : (out : Evicted) {v : W} {kind : ℕ} → EvictedAs Shows h out v → PlacedAs Shows π x h kind w
-      → Tells Shows (missed π x h)
-      (record { kind = kind; page = out .page; list = out .list; moves = out .hand .moves; cleared = out .hand .cleared }) w
+      → Tells Shows (missed π x h) (servedOf kind out) w
   tells-missed out e placed = record {
     kind-is = placed .kind-is;
     page-is = e .page-is ∙ sym (missed-page π x h);

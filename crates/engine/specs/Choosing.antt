@@ -11,7 +11,7 @@ use Rattle.engine.specs.declared.Hand.{Hand as Counted}
 use Rattle.engine.specs.declared.Evicted.{Evicted}
 use Rattle.engine.specs.Shown.{Counts, Ended, EvictedAs}
 
--- The clock that line 24 chooses, and the history that a clock's pages are demoted to.
+-- The clock that line 24 chooses, and the history that a clock's pages are demoted to; nothing is demoted from a history.
 abbrev pub chosen : Directory → Name
 chosen d = if t1AtTarget d then T1 else T2
 

@@ -17,6 +17,11 @@ pub record Counts (h : Hand.Hand) (k : Counted) : Type 0 where
   pub moves-is : k .moves ≡ h .moves
   pub cleared-is : k .cleared ≡ h .cleared
 
+-- The answer of a miss of this kind, after what the evict part answered.
+abbrev pub servedOf : ℕ → Evicted → Served
+servedOf kind out =
+    record { kind = kind; page = out .page; list = out .list; moves = out .hand .moves; cleared = out .hand .cleared }
+
 -- The published repeat from hand h ends, at a hand of which Q holds.
 pub record Ended (look : Hand.Hand → Look) (h : Hand.Hand) (Q : Hand.Hand → Type 0) : Type 0 where
   pub at : Hand.Hand

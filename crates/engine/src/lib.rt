@@ -1,5 +1,8 @@
 // What every engine answers: what the hand has counted, the evicted page, a request's answer.
 // What lent memory shows of a directory, whatever an engine keeps it in, is a parameter of specs/Shown.
+ghost use mathlib.Core.Path.{_≡_};
+ghost use Rattle.engine.specs.Shown.{servedOf};
+
 pub mod counts;
 pub mod kinds;
 
@@ -23,4 +26,17 @@ pub struct Served {
     pub list: u32,
     pub moves: u32,
     pub cleared: u32,
+}
+
+// The answer of a miss after the evict part.
+pub fn answer_of(kind: u32, out: Evicted) -> Served
+    ensures { λ r. ⌜ r ≡ servedOf kind out ⌝ }
+{
+    Served {
+        kind,
+        page: out.page,
+        list: out.list,
+        moves: out.hand.moves,
+        cleared: out.hand.cleared,
+    }
 }
