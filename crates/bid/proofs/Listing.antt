@@ -15,7 +15,7 @@ use Rattle.sheets.specs.Refusals.{over}
 use Rattle.sheets.proofs.Pages.{next-page, wrong-page}
 use Rattle.sheets.proofs.Lines.{not-at-end}
 use Rattle.text.proofs.Text.{from-place}
-use Rattle.bid.specs.Answers.{numberOf, told, Reads, sizeOf, Filled}
+use Rattle.bid.specs.Answers.{numberOf, told, ReadsLine, sizeOf, PagesFilled}
 use Rattle.bid.specs.declared.keyed_lines.Reading.{Reading}
 use Rattle.bid.specs.declared.keyed_lines.Reading.the-variants.{Good, NoSuchLine, TooManyPages}
 use Rattle.bid.specs.declared.keyed_lines.Reading.the-variants.{PolicyNotKnown, SizeNotKnown, NotInForm}
@@ -47,7 +47,7 @@ pub record PageRead (s : List ℕ) (at n page next : ℕ) : Type 0 where
   pub further : at < next
   pub inside : next ≤ ∣ s ∣
 
-pub page-read : (s : List ℕ) (at n page next : ℕ) → Reads s at (pageLine n (lines (drop at s))) (Good page next)
+pub page-read : (s : List ℕ) (at n page next : ℕ) → ReadsLine s at (pageLine n (lines (drop at s))) (Good page next)
     → PageRead s at n page next
 page-read s at n page next h =
     let rest = lines (drop next s) in
@@ -62,7 +62,7 @@ page-read s at n page next h =
 
 -- A page line that is wrong decides.
 pub page-wrong : (s : List ℕ) (at n : ℕ) (r : Reading) → at < ∣ s ∣ → Wrong r
-    → Reads s at (pageLine n (lines (drop at s))) r
+    → ReadsLine s at (pageLine n (lines (drop at s))) r
     → pagesFrom n (lines (drop at s)) ≡ refusedAt (numberOf r) (numberOfLine n)
 page-wrong s at n r inside tag h =
     wrong-page n (numberOf r) (lines (drop at s)) (not-at-end s at inside) (sym (h .tells) ∙ refuses s r tag)
@@ -138,14 +138,14 @@ module _ (s : List ℕ) (start : ℕ) (w : List ℕ) (at n : ℕ) (now : List �
         ∙ behind-one-more (h .written) n page (lines (drop next s)) (pagesFrom (n + 1) (lines (drop next s)));
   }
 
-  pub all-written : ∣ s ∣ ≤ at → Filled s start w now
+  pub all-written : ∣ s ∣ ≤ at → PagesFilled s start w now
   all-written past pages is =
       let ended = ap (λ t. behind (h .written) (pagesFrom n (lines t))) (drop-of-length-le s {i = at} past) in
       let same : h .written ++ [] ≡ pages = cc in
       let all : h .written ≡ pages = sym (append-nil (h .written)) ∙ same in
       h .now-is ∙ ap (λ (m : ℕ). h .written ++ drop m w) (sym (h .as-many)) ∙ ap (λ l. over l w) all
 
-  pub never-wrong : (number line : ℕ) → pagesFrom n (lines (drop at s)) ≡ refusedAt number line → Filled s start w now
+  pub never-wrong : (number line : ℕ) → pagesFrom n (lines (drop at s)) ≡ refusedAt number line → PagesFilled s start w now
   never-wrong number line wrong pages is =
       let clash = sym is ∙ h .others-follow ∙ ap (behind (h .written)) wrong in
       let never : _≡_ {A = ℕ} 0 1 = cc in

@@ -14,8 +14,8 @@ use Rattle.sheets.specs.Lines.{Lines, lines}
 use Rattle.sheets.specs.Bid.{Meaning, refused, Pages, listed, refusedAt, policyLine, sizeLine, costLine}
 use Rattle.sheets.specs.Bid.{pagesFrom, withPages, afterLine, inOrder, meaning}
 use Rattle.sheets.specs.Refusals.{over, Read, answer, onRead}
-use Rattle.bid.specs.Answers.{numberOf, told, Reads, sizeOf}
-use Rattle.bid.specs.Promises.{refusedBid, Answers}
+use Rattle.bid.specs.Answers.{numberOf, told, ReadsLine, sizeOf}
+use Rattle.bid.specs.Promises.{refusedBid, ReadAs}
 use Rattle.bid.specs.declared.Bid.{Bid}
 use Rattle.bid.specs.declared.keyed_lines.Reading.{Reading}
 use Rattle.bid.specs.declared.keyed_lines.Reading.the-variants.{Good}
@@ -25,10 +25,10 @@ use Rattle.bid.proofs.Listing.{Wrong, refuses}
 -- ONE LINE
 
 module _ {s : List ℕ} {at : ℕ} {reading : Lines.Reading} {r : Reading} (n : ℕ) (follows : ℕ → Lines → Meaning) where
-  line-decides : Reads s at reading r → Wrong r → afterLine n reading follows ≡ refused (numberOf r) n
+  line-decides : ReadsLine s at reading r → Wrong r → afterLine n reading follows ≡ refused (numberOf r) n
   line-decides h wrong = ap (λ x. afterLine n x follows) (sym (h .tells) ∙ refuses s r wrong)
 
-  line-goes-on : {value next : ℕ} → Reads s at reading r → r ≡ Good value next
+  line-goes-on : {value next : ℕ} → ReadsLine s at reading r → r ≡ Good value next
       → afterLine n reading follows ≡ follows value (lines (drop next s))
   line-goes-on h is = ap (λ x. afterLine n x follows) (sym (h .tells) ∙ ap (told s) is)
 
@@ -38,12 +38,12 @@ pages-refused : (ps : Pages) {number line : ℕ} → Listed.Refused number line 
 pages-refused (listed pages) h = let never : _≡_ {A = ℕ} 0 1 = cc in absurd (omega arith)
 pages-refused (refusedAt number line) h = cc
 
-pub record Counted (ps : Pages) (count : ℕ) : Type 0 where
+pub record PagesCounted (ps : Pages) (count : ℕ) : Type 0 where
   pub pages : List ℕ
   pub is-listed : ps ≡ listed pages
   pub as-many : count ≡ ∣ pages ∣
 
-pub pages-counted : (ps : Pages) {count : ℕ} → Listed.Pages count ≡ sizeOf ps → Counted ps count
+pub pages-counted : (ps : Pages) {count : ℕ} → Listed.Pages count ≡ sizeOf ps → PagesCounted ps count
 pages-counted (listed pages) h = record { pages = pages; is-listed = refl; as-many = cc }
 pages-counted (refusedAt number line) h = let never : _≡_ {A = ℕ} 0 1 = cc in absurd (omega arith)
 
@@ -58,13 +58,13 @@ fromThird policy c ls = afterLine 3 (costLine ls) (fromFourth policy c)
 abbrev fromSecond : ℕ → Lines → Meaning
 fromSecond policy ls = afterLine 2 (sizeLine ls) (fromThird policy)
 
-module _ {s : List ℕ} {r₁ : Reading} (first : Reads s 0 (policyLine (lines s)) r₁) where
+module _ {s : List ℕ} {r₁ : Reading} (first : ReadsLine s 0 (policyLine (lines s)) r₁) where
   pub first-wrong : Wrong r₁ → inOrder (lines s) ≡ refused (numberOf r₁) 1
   unfolding inOrder
   first-wrong wrong = line-decides 1 fromSecond first wrong
 
   module _ {policy next : ℕ} (first-is : r₁ ≡ Good policy next)
-      {r₂ : Reading} (second : Reads s next (sizeLine (lines (drop next s))) r₂) where
+      {r₂ : Reading} (second : ReadsLine s next (sizeLine (lines (drop next s))) r₂) where
     after-first : inOrder (lines s) ≡ fromSecond policy (lines (drop next s))
     unfolding inOrder
     after-first = line-goes-on 1 fromSecond first first-is
@@ -73,7 +73,7 @@ module _ {s : List ℕ} {r₁ : Reading} (first : Reads s 0 (policyLine (lines s
     second-wrong wrong = after-first ∙ line-decides 2 (fromThird policy) second wrong
 
     module _ {c next₂ : ℕ} (second-is : r₂ ≡ Good c next₂)
-        {r₃ : Reading} (third : Reads s next₂ (costLine (lines (drop next₂ s))) r₃) where
+        {r₃ : Reading} (third : ReadsLine s next₂ (costLine (lines (drop next₂ s))) r₃) where
       after-second : inOrder (lines s) ≡ fromThird policy c (lines (drop next₂ s))
       after-second = after-first ∙ line-goes-on 2 (fromThird policy) second second-is
 
@@ -93,7 +93,7 @@ module _ {s : List ℕ} {r₁ : Reading} (first : Reads s 0 (policyLine (lines s
 -- THE ANSWER
 
 pub answers-refusal : {m : Meaning} {number line : ℕ} {w : List ℕ} {r : Bid} → m ≡ refused number line
-    → r ≡ refusedBid number line → Answers (answer m w) r w
+    → r ≡ refusedBid number line → ReadAs (answer m w) r w
 answers-refusal is so = record {
   number-is = rw (so, is) refl;
   line-is = rw (so, is) refl;
@@ -105,12 +105,12 @@ answers-refusal is so = record {
 }
 
 pub answers-wrong-line : {m : Meaning} {number line n : ℕ} {w : List ℕ} {r : Bid} → m ≡ refused number line
-    → n ≡ number → r ≡ refusedBid n line → Answers (answer m w) r w
+    → n ≡ number → r ≡ refusedBid n line → ReadAs (answer m w) r w
 answers-wrong-line {line = line} is same so = answers-refusal is (so ∙ ap (λ (n : ℕ). refusedBid n line) same)
 
 pub answers-bid : {m : Meaning} {policy c cost count : ℕ} {ps : Pages} {w w′ : List ℕ} → m ≡ withPages policy c cost ps
-    → Counted ps count → ((pages : List ℕ) → ps ≡ listed pages → w′ ≡ over pages w)
-    → Answers (answer m w) (record { number = 0; line = 0; policy = policy; c = c; cost = cost; count = count }) w′
+    → PagesCounted ps count → ((pages : List ℕ) → ps ≡ listed pages → w′ ≡ over pages w)
+    → ReadAs (answer m w) (record { number = 0; line = 0; policy = policy; c = c; cost = cost; count = count }) w′
 answers-bid {policy} {c} {cost} is counted filled =
     let whole = is ∙ ap (withPages policy c cost) (counted .is-listed) in
     record {
@@ -137,20 +137,20 @@ module _ (s w : List ℕ) where
   unfolding onRead
   read-by-meaning room = ap byBuffer (le-ltb _ _ room)
 
-  pub short-buffer : {r : Bid} → ∣ w ∣ < 1000 → r ≡ refusedBid 6 0 → Answers (onRead s w) r w
+  pub short-buffer : {r : Bid} → ∣ w ∣ < 1000 → r ≡ refusedBid 6 0 → ReadAs (onRead s w) r w
   unfolding onRead
   short-buffer {r} short so =
-      subst (λ a. Answers a r w) (ap byBuffer (sym (lt-ltb _ _ short)))
+      subst (λ a. ReadAs a r w) (ap byBuffer (sym (lt-ltb _ _ short)))
       (answers-refusal {m = refused bufferTooShort 0} refl so)
 
-  pub long-sheet : {r : Bid} → 1000 ≤ ∣ w ∣ → 16000 < ∣ s ∣ → r ≡ refusedBid 7 0 → Answers (onRead s w) r w
+  pub long-sheet : {r : Bid} → 1000 ≤ ∣ w ∣ → 16000 < ∣ s ∣ → r ≡ refusedBid 7 0 → ReadAs (onRead s w) r w
   unfolding meaning
   long-sheet {r} room long so =
-      subst (λ a. Answers a r w) (sym (read-by-meaning room)) (answers-refusal (ap byLength (lt-ltb _ _ long)) so)
+      subst (λ a. ReadAs a r w) (sym (read-by-meaning room)) (answers-refusal (ap byLength (lt-ltb _ _ long)) so)
 
-  pub by-lines : {r : Bid} {w′ : List ℕ} → 1000 ≤ ∣ w ∣ → ∣ s ∣ ≤ 16000 → Answers (answer (inOrder (lines s)) w) r w′
-      → Answers (onRead s w) r w′
+  pub by-lines : {r : Bid} {w′ : List ℕ} → 1000 ≤ ∣ w ∣ → ∣ s ∣ ≤ 16000 → ReadAs (answer (inOrder (lines s)) w) r w′
+      → ReadAs (onRead s w) r w′
   unfolding meaning
   by-lines {r} {w′} room short h =
-      subst (λ a. Answers a r w′)
+      subst (λ a. ReadAs a r w′)
       (sym (read-by-meaning room ∙ ap (λ (long : Bool). answer (byLength long) w) (le-ltb _ _ short))) h

@@ -8,7 +8,7 @@ use lib.ListN.{take, drop}
 use Rattle.sheets.specs.Number.{Value, means, wrong}
 use Rattle.sheets.specs.Lines as Lines
 use Rattle.sheets.specs.Lines.{lines, bad, before, under}
-use Rattle.bid.specs.Answers.{valueUnder, Inside, KeyedAt, told, Ahead, Reads}
+use Rattle.bid.specs.Answers.{valueUnder, Inside, KeyedAt, told, Ahead, ReadsLine}
 use Rattle.bid.specs.declared.keyed_lines.Keyed.{Keyed}
 use Rattle.bid.specs.declared.keyed_lines.Keyed.the-variants.{Value as ValueAt, NoSuchLine}
 use Rattle.bid.specs.declared.keyed_lines.Reading.{Reading}
@@ -22,7 +22,7 @@ module _ {s : List ℕ} {at : ℕ} {key : List ℕ} {r : Keyed} (h : KeyedAt s a
     abbrev reading : Lines.Reading
     reading = under key meant (lines (drop at s))
 
-    pub no-line-read : r ≡ NoSuchLine → Reads s at reading Reading.NoSuchLine
+    pub no-line-read : r ≡ NoSuchLine → ReadsLine s at reading Reading.NoSuchLine
     no-line-read is = record { tells = sym (h .under-key meant ∙ ap (valueUnder s meant) is); ahead = tt }
 
     module _ {start end : ℕ} (is : r ≡ ValueAt start end) where
@@ -33,11 +33,11 @@ module _ {s : List ℕ} {at : ℕ} {key : List ℕ} {r : Keyed} (h : KeyedAt s a
       value-decides v so =
           sym (h .under-key meant ∙ ap (valueUnder s meant) is ∙ ap (λ w. before w (lines (drop (end + 1) s))) so)
 
-      pub good-read : {n : ℕ} → meant value ≡ means n → Reads s at reading (Reading.Good n (end + 1))
+      pub good-read : {n : ℕ} → meant value ≡ means n → ReadsLine s at reading (Reading.Good n (end + 1))
       good-read {n} so =
           let inside = value-inside is in
           record { tells = value-decides (means n) so; ahead = (omega arith, omega arith) }
 
       pub wrong-read : {number : ℕ} {r : Reading} → told s r ≡ bad number → Ahead s at r → meant value ≡ wrong number
-          → Reads s at reading r
+          → ReadsLine s at reading r
       wrong-read {number} says ahead so = record { tells = says ∙ value-decides (wrong number) so; ahead = ahead }

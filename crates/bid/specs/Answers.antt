@@ -70,7 +70,7 @@ Ahead s at Reading.PolicyNotKnown = Unit
 Ahead s at Reading.SizeNotKnown = Unit
 Ahead s at Reading.NotInForm = Unit
 
-pub record Reads (s : List ℕ) (at : ℕ) (reading : Lines.Reading) (r : Reading) : Type 0 where
+pub record ReadsLine (s : List ℕ) (at : ℕ) (reading : Lines.Reading) (r : Reading) : Type 0 where
   pub tells : told s r ≡ reading
   pub ahead : Ahead s at r
 
@@ -81,5 +81,5 @@ sizeOf (listed pages) = Listed.Pages ∣ pages ∣
 sizeOf (refusedAt number line) = Listed.Refused number line
 
 -- Good page lines, from a place on, written into a buffer.
-abbrev pub Filled : List ℕ → ℕ → List ℕ → List ℕ → Type 0
-Filled s start w w′ = (pages : List ℕ) → pagesFrom 0 (lines (drop start s)) ≡ listed pages → w′ ≡ over pages w
+abbrev pub PagesFilled : List ℕ → ℕ → List ℕ → List ℕ → Type 0
+PagesFilled s start w w′ = (pages : List ℕ) → pagesFrom 0 (lines (drop start s)) ≡ listed pages → w′ ≡ over pages w

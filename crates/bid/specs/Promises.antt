@@ -11,7 +11,7 @@ abbrev pub refusedBid : ℕ → ℕ → Bid
 refusedBid number line = record { number = number; line = line; policy = 0; c = 0; cost = 0; count = 0 }
 
 -- The answer and the words are those that a definition gives.
-pub record Answers (defined : Read) (r : Bid) (pages′ : List ℕ) : Type 0 where
+pub record ReadAs (defined : Read) (r : Bid) (pages′ : List ℕ) : Type 0 where
   pub number-is : r .number ≡ defined .number
   pub line-is : r .line ≡ defined .line
   pub policy-is : r .policy ≡ defined .policy
@@ -22,4 +22,4 @@ pub record Answers (defined : Read) (r : Bid) (pages′ : List ℕ) : Type 0 whe
 
 -- read(sheet, pages) -> Bid
 abbrev pub BidRead : List ℕ → List ℕ → Bid → List ℕ → Type 0
-BidRead sheet pages r pages′ = Answers (onRead sheet pages) r pages′
+BidRead sheet pages r pages′ = ReadAs (onRead sheet pages) r pages′

@@ -4,7 +4,7 @@ ghost use mathlib.Core.Path.{_≡_};
 ghost use lib.ListN.{drop};
 ghost use Rattle.sheets.specs.Lines.{lines};
 ghost use Rattle.sheets.specs.Bid.{policyValue, policyLine, sizeLine, costLine, pageLine};
-ghost use Rattle.bid.specs.Answers.{KeyedAt, policyCase, Reads, numberOf};
+ghost use Rattle.bid.specs.Answers.{KeyedAt, policyCase, ReadsLine, numberOf};
 use terms::limits;
 use terms::policies;
 use terms::refusals;
@@ -76,7 +76,7 @@ fn policy_value(text: &[u8]) -> PolicyValue
 
 // The first line: a blank policy means car.
 pub fn policy_line(sheet: &[u8], at: usize) -> Reading
-    ensures { λ r. ⌜ Reads (now (sheet .entry)) at (policyLine (lines (drop at (now (sheet .entry))))) r ⌝ }
+    ensures { λ r. ⌜ ReadsLine (now (sheet .entry)) at (policyLine (lines (drop at (now (sheet .entry))))) r ⌝ }
 {
     let Keyed::Value(start, end) = under_key(sheet, at, b"policy=") else {
         return Reading::NoSuchLine;
@@ -90,7 +90,7 @@ pub fn policy_line(sheet: &[u8], at: usize) -> Reading
 }
 
 pub fn size_line(sheet: &[u8], at: usize) -> Reading
-    ensures { λ r. ⌜ Reads (now (sheet .entry)) at (sizeLine (lines (drop at (now (sheet .entry))))) r ⌝ }
+    ensures { λ r. ⌜ ReadsLine (now (sheet .entry)) at (sizeLine (lines (drop at (now (sheet .entry))))) r ⌝ }
 {
     let Keyed::Value(start, end) = under_key(sheet, at, b"pages=") else {
         return Reading::NoSuchLine;
@@ -105,7 +105,7 @@ pub fn size_line(sheet: &[u8], at: usize) -> Reading
 }
 
 pub fn cost_line(sheet: &[u8], at: usize) -> Reading
-    ensures { λ r. ⌜ Reads (now (sheet .entry)) at (costLine (lines (drop at (now (sheet .entry))))) r ⌝ }
+    ensures { λ r. ⌜ ReadsLine (now (sheet .entry)) at (costLine (lines (drop at (now (sheet .entry))))) r ⌝ }
 {
     let Keyed::Value(start, end) = under_key(sheet, at, b"misscost=") else {
         return Reading::NoSuchLine;
@@ -118,7 +118,7 @@ pub fn cost_line(sheet: &[u8], at: usize) -> Reading
 
 // A page line, with so many page lines before it: one too many is refused whatever its value.
 pub fn page_line(sheet: &[u8], at: usize, before: u32) -> Reading
-    ensures { λ r. ⌜ Reads (now (sheet .entry)) at (pageLine before (lines (drop at (now (sheet .entry))))) r ⌝ }
+    ensures { λ r. ⌜ ReadsLine (now (sheet .entry)) at (pageLine before (lines (drop at (now (sheet .entry))))) r ⌝ }
 {
     let Keyed::Value(start, end) = under_key(sheet, at, b"page=") else {
         return Reading::NoSuchLine;

@@ -6,8 +6,8 @@ ghost use lib.ListN.{length, drop};
 ghost use Rattle.sheets.specs.Lines.{lines};
 ghost use Rattle.sheets.specs.Bid.{pagesFrom, inOrder};
 ghost use Rattle.sheets.specs.Refusals.{answer};
-ghost use Rattle.bid.specs.Answers.{sizeOf, Filled};
-ghost use Rattle.bid.specs.Promises.{refusedBid, Answers, BidRead};
+ghost use Rattle.bid.specs.Answers.{sizeOf, PagesFilled};
+ghost use Rattle.bid.specs.Promises.{refusedBid, ReadAs, BidRead};
 
 mod keyed_lines;
 
@@ -64,7 +64,7 @@ fn count_pages(sheet: &[u8], start: usize) -> Listed
 // Writes the pages of lines that are known to be good.
 fn fill(sheet: &[u8], start: usize, pages: &mut [u32])
     requires { ⌜ 1000 ≤ length (now pages) ⌝ }
-    ensures { λ _. ⌜ Filled (now (sheet .entry)) start (now (pages .entry)) (now (pages .exit)) ⌝ }
+    ensures { λ _. ⌜ PagesFilled (now (sheet .entry)) start (now (pages .entry)) (now (pages .exit)) ⌝ }
 {
     let mut at = start;
     let mut count = 0;
@@ -81,7 +81,7 @@ fn fill(sheet: &[u8], start: usize, pages: &mut [u32])
 // The lines from the top: the first that is wrong decides.
 fn read_lines(sheet: &[u8], pages: &mut [u32]) -> Bid
     requires { ⌜ 1000 ≤ length (now pages) ⌝ }
-    ensures { λ r. ⌜ Answers (answer (inOrder (lines (now (sheet .entry)))) (now (pages .entry)))
+    ensures { λ r. ⌜ ReadAs (answer (inOrder (lines (now (sheet .entry)))) (now (pages .entry)))
         r (now (pages .exit)) ⌝ }
 {
     let policy_read = keyed_lines::policy_line(sheet, 0);

@@ -17,7 +17,7 @@ use Rattle.laws.proofs.Soundness.{cart-iff}
 use Rattle.laws.proofs.Cart.{cost-at-most-two, cart-stops, cart-opens, cart-opened, cart-counts}
 use Rattle.engine.specs.declared.counts.Kept.{Kept}
 use Rattle.engine.specs.declared.counts.Evicted.{Evicted}
-use Rattle.engine.specs.Passes.{Passing, ShowsHand, Evicts}
+use Rattle.engine.specs.Passes.{Passing, ShowsHand, EvictedWithCounts}
 use Rattle.entries.specs.Holds.{Holds}
 use Rattle.entries.specs.Flags.{ofFlag}
 use Rattle.entries.specs.Leaves.{OfEntries}
@@ -67,7 +67,7 @@ module _ {w : List ℕ} (f : Full cart w) where
     unfolding begins-passing
     begins-shown = record { shown = a .is; keeps = omega (arith, begins-passing .accounts) }
 
-  pub opened : {W : List ℕ} {r : Evicted} → Evicts Holds (evict (decode w)) r W → Freed W × CountsFit W (r .short) (r .long)
+  pub opened : {W : List ℕ} {r : Evicted} → EvictedWithCounts Holds (evict (decode w)) r W → Freed W × CountsFit W (r .short) (r .long)
   opened {W} e =
       let d = decode w in
       let d′ = evict d .dir in

@@ -16,9 +16,9 @@ use Rattle.engine.specs.Passes.{oldestOf}
 use Rattle.engine.proofs.CartTrim.{trims, trims-not, oldest-has-head}
 use Rattle.entries.specs.Holds.{Holds}
 use Rattle.entries.specs.Stretches.{nameOf}
-use Rattle.entries.specs.Leaves.{HeadDropped}
+use Rattle.entries.specs.Leaves.{HistoryHeadDropped}
 use Rattle.entries.proofs.Laid.{header, length-of-list}
-use Rattle.entries.proofs.Rooms.{Fits}
+use Rattle.entries.proofs.Rooms.{RoomForOne}
 
 -- By the tests of `oldestOf`.
 module _ (q k1 k2 : ℕ) where
@@ -41,7 +41,7 @@ module _ (d : Directory) {w : List ℕ} (b : ℕ) (is : Holds d w) (named : name
       let some : 1 ≤ ∣ listOf (nameOf b) d ∣ = rw named-in-d (oldest-has-head d (omega arith)) in
       omega (arith, length-of-list b d w is known)
 
-  pub head-dropped : {w′ : List ℕ} → HeadDropped b w w′ → cached d + remembered d ≤ 2 * d .c
+  pub head-dropped : {w′ : List ℕ} → HistoryHeadDropped b w w′ → cached d + remembered d ≤ 2 * d .c
       → remembered d ≡ d .c + 1 → Holds (trim d) w′
   head-dropped dropped fits full = rw (trims d full, ← named-in-d) (dropped d is fits)
 
@@ -49,7 +49,7 @@ pub not-dropped : (d : Directory) {w : List ℕ} → Holds d w → ¬ (remembere
 not-dropped d is fits = rw (trims-not d fits) is
 
 -- After it there is room for one more entry.
-pub trim-fits : (d : Directory) → cached d + 1 ≡ d .c → remembered d ≤ d .c + 1 → Fits d (trim d)
+pub trim-fits : (d : Directory) → cached d + 1 ≡ d .c → remembered d ≤ d .c + 1 → RoomForOne d (trim d)
 trim-fits d one-free history =
     let t = cart-trims d history in
     let n1 = ap (λ (l : List Entry). ∣ l ∣) (t .same-t1) in

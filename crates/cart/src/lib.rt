@@ -12,7 +12,7 @@ ghost use Rattle.figures.specs.Cart as Cart;
 ghost use Rattle.figures.specs.Policy.{cartPolicy};
 ghost use Rattle.figures.specs.Request.{missed};
 ghost use Rattle.engine.specs.Shown.{Makes, Tells};
-ghost use Rattle.engine.specs.Passes.{goesOn, oldestOf, Passing, Looked, Passed, Evicts, Demotes, Places};
+ghost use Rattle.engine.specs.Passes.{goesOn, oldestOf, Passing, Looked, Passed, EvictedWithCounts, Demotes, Places};
 ghost use Rattle.entries.specs.Holds.{Holds};
 ghost use Rattle.entries.specs.Stretches.{Room, nameOf};
 ghost use Rattle.entries.specs.Flags.{Says};
@@ -213,7 +213,7 @@ fn demote(dir: &mut [u32], kept: counts::Kept) -> counts::Evicted
 // Lines 23 to 40.
 pub fn evict(dir: &mut [u32]) -> counts::Evicted
     requires { ⌜ Full cart (now dir) ⌝ }
-    ensures { λ r. ⌜ Evicts Holds (Cart.evict (decode (now (dir .entry)))) r (now (dir .exit)) ⌝ }
+    ensures { λ r. ⌜ EvictedWithCounts Holds (Cart.evict (decode (now (dir .entry)))) r (now (dir .exit)) ⌝ }
 {
     let n = dir[header::T1_LENGTH] + dir[header::T2_LENGTH];
     let longs = search::count(dir, header::ENTRIES, lists::wide(n), flags::LONG);

@@ -13,7 +13,7 @@ use Rattle.figures.specs.Words.{encode, decode}
 use Rattle.figures.specs.Sound.{sound}
 use Rattle.figures.specs.Request.{request}
 use Rattle.figures.specs.Run.{zeroTally}
-use Rattle.figures.specs.Refusals.{checkNumber, onCheck, Answered, onRequest, runNumber, Replayed, onRun}
+use Rattle.figures.specs.Refusals.{checkNumber, onCheck, Answered, onRequest, runNumber, RunAnswered, onRun}
 use Rattle.figures.specs.Demands.{Sound}
 use Rattle.laws.proofs.Encoding.{decode-encode}
 use Rattle.laws.proofs.Requests.{after, run-after, after-append}
@@ -53,7 +53,7 @@ module _ (w trace answers : List ℕ) where
   run-accepted : onRun w trace answers .number ≡ 0 → runNumber w trace answers ≡ 0
   unfolding onRun
   run-accepted =
-      by-test (λ (a : Replayed). a .number ≡ 0 → runNumber w trace answers ≡ 0) (eqb (runNumber w trace answers) 0)
+      by-test (λ (a : RunAnswered). a .number ≡ 0 → runNumber w trace answers ≡ 0) (eqb (runNumber w trace answers) 0)
       (λ is none. eqb-true (runNumber w trace answers) 0 is) (λ isnt none. none)
 
   run-sound : runNumber w trace answers ≡ 0 → Sound (decode w)

@@ -45,7 +45,7 @@ moves-counted {w} r x =
 
 -- After i requests the words are v and the buffer is `given`: the answers so far stand in front, and what is left of the
 -- trace, from these words and this tally, comes to what the whole run comes to.
-pub record Midway (w trace answers : List ℕ) (i : ℕ) (v given : List ℕ) (t : Tally) : Type 0 where
+pub record RunMidway (w trace answers : List ℕ) (i : ℕ) (v given : List ℕ) (t : Tally) : Type 0 where
   pub inside : i ≤ ∣ trace ∣
   pub ready : Ready v
   pub within : Within i (defined t)
@@ -55,7 +55,7 @@ pub record Midway (w trace answers : List ℕ) (i : ℕ) (v given : List ℕ) (t
   pub comes-to : before front (runFrom (defined t) (drop i trace) (decode v)) ≡ run trace (decode w)
 
 module _ (w trace answers : List ℕ) where
-  pub begins : Ready w → (t : Tally) → defined t ≡ zeroTally → Midway w trace answers 0 w answers t
+  pub begins : Ready w → (t : Tally) → defined t ≡ zeroTally → RunMidway w trace answers 0 w answers t
   begins r t none = record {
     inside = omega arith;
     ready = r;
@@ -72,7 +72,7 @@ module _ (w trace answers : List ℕ) where
     comes-to = ap (λ (t : Run.Tally). runFrom t trace (decode w)) none;
   }
 
-  module _ {i : ℕ} {v given : List ℕ} {t : Tally} (m : Midway w trace answers i v given t) where
+  module _ {i : ℕ} {v given : List ℕ} {t : Tally} (m : RunMidway w trace answers i v given t) where
     -- One request more.
     module _ (more : i < ∣ trace ∣) {at : ℕ} (at-is : at ≡ 4 * i) {v′ given′ : List ℕ} {t′ : Tally} (s : Stepped (getD trace i 0) v given at t t′ v′ given′) where
       abbrev served : Served
@@ -96,7 +96,7 @@ module _ (w trace answers : List ℕ) where
       next-run =
           rw (s .tally-is, ← s .shown, decode-encode, add-one i, append-assoc) (rw (drop-cons trace i 0 more) at (m .comes-to))
 
-      pub goes-on : Midway w trace answers (i + 1) v′ given′ t′
+      pub goes-on : RunMidway w trace answers (i + 1) v′ given′ t′
       goes-on = record {
         inside = omega arith;
         ready = s .ready-again;

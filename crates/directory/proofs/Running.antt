@@ -38,10 +38,10 @@ module _ (w trace answers : List ℕ) where
   replayed-refused m is some t zeros =
       let e = sym (refused m is some) in
       record {
-        number-is = ap (λ (r : Refusals.Replayed). r .number) e;
-        tally-is = zeros ∙ ap (λ (r : Refusals.Replayed). r .tally) e;
-        words-are = ap (λ (r : Refusals.Replayed). r .words) e;
-        answers-are = ap (λ (r : Refusals.Replayed). r .answers) e;
+        number-is = ap (λ (r : Refusals.RunAnswered). r .number) e;
+        tally-is = zeros ∙ ap (λ (r : Refusals.RunAnswered). r .tally) e;
+        words-are = ap (λ (r : Refusals.RunAnswered). r .words) e;
+        answers-are = ap (λ (r : Refusals.RunAnswered). r .answers) e;
         moves-at-most = omega (arith, ap (λ (t : Run.Tally). t .moves) zeros);
       }
 
@@ -75,10 +75,10 @@ module _ (w trace answers : List ℕ) where
             let e = sym (served (run-accepted fits)) in
             let d-sound = decoded-sound w (accepted-sound w (sym number ∙ none)) in
             record {
-              number-is = ap (λ (r : Refusals.Replayed). r .number) e;
-              tally-is = r .tally-is ∙ ap (λ (r : Refusals.Replayed). r .tally) e;
-              words-are = r .words-are ∙ ap (λ (r : Refusals.Replayed). r .words) e;
-              answers-are = r .answers-are ∙ ap (λ (r : Refusals.Replayed). r .answers) e;
+              number-is = ap (λ (r : Refusals.RunAnswered). r .number) e;
+              tally-is = r .tally-is ∙ ap (λ (r : Refusals.RunAnswered). r .tally) e;
+              words-are = r .words-are ∙ ap (λ (r : Refusals.RunAnswered). r .words) e;
+              answers-are = r .answers-are ∙ ap (λ (r : Refusals.RunAnswered). r .answers) e;
               moves-at-most =
                   omega (arith, ap (λ (t : Run.Tally). t .moves) (r .tally-is), run-moves-at-most trace (decode w) d-sound);
             }

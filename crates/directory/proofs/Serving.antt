@@ -29,7 +29,7 @@ use Rattle.entries.proofs.Laid.{Header, header}
 use Rattle.entries.proofs.Reading.{told, cache-held}
 use Rattle.entries.proofs.Indexes.{index-has, index-lacks, has-append}
 use Rattle.entries.proofs.Rooms.{roomy}
-use Rattle.entries.proofs.Searching.{Found}
+use Rattle.entries.proofs.Searching.{IndexFound}
 use Rattle.directory.specs.Ready.{stillOf, evicting, Ready}
 
 pub ready : (w : List ℕ) → sound w ≡ true → Ready w
@@ -97,7 +97,7 @@ module _ {w : List ℕ} (r : Ready w) where
         record { kind-is = refl; page-is = refl; list-is = refl; moves-is = refl; cleared-is = refl; shown = is }
 
     -- the page's place in T1 and T2, as `find` gives it
-    module _ (n k : ℕ) (found : Found w 8 n x k) (all : n ≡ nT1 w + nT2 w) where
+    module _ (n k : ℕ) (found : IndexFound w 8 n x k) (all : n ≡ nT1 w + nT2 w) where
       pub place : k ≡ index x (d .t1 ++ d .t2)
       place = told (cache-held d w words-held) found refl (length-append (d .t1) (d .t2) ∙ omega (arith, held))
 

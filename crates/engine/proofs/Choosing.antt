@@ -18,7 +18,7 @@ use Rattle.engine.specs.declared.Hand.{Hand as Counted}
 use Rattle.engine.specs.declared.Evicted.{Evicted}
 use Rattle.engine.specs.Shown.{Makes}
 use Rattle.engine.specs.Heads.{frontOf, headTo}
-use Rattle.engine.specs.Choosing.{chosen, historyOf, Ready, Turning, Chosen, EndsFrom}
+use Rattle.engine.specs.Choosing.{chosen, historyOf, CarReady, Turning, Chosen, EndsFrom}
 use Rattle.engine.proofs.Heads.{some-front}
 
 -- What is counted after a turn, which clears a bit, and after the demotion, which clears none.
@@ -57,7 +57,7 @@ module _ (i : Name) (h : Hand) (is-chosen : i ≡ chosen (h .dir)) where
 
 -- READY AGAIN
 
-module _ {k : Counted} (d : Directory) (r : Ready d k) where
+module _ {k : Counted} (d : Directory) (r : CarReady d k) where
   -- The chosen clock has a head.
   pub chosen-some : (i : Name) → i ≡ chosen d → 1 ≤ ∣ listOf i d ∣
   chosen-some i is =
@@ -66,7 +66,7 @@ module _ {k : Counted} (d : Directory) (r : Ready d k) where
 
   -- A head with its bit set becomes T2's tail: a set bit less, and a move more.
   abbrev TurnedReady : Name → Type 0
-  TurnedReady i = let d′ = headTo i T2 cleared d in Ready d′ (turnedOnce k) × (inCache bits d′ < inCache bits d)
+  TurnedReady i = let d′ = headTo i T2 cleared d in CarReady d′ (turnedOnce k) × (inCache bits d′ < inCache bits d)
 
   turned-ready : (i : Name) → i ≡ chosen d → frontOf (listOf i d) .bit ≡ true → TurnedReady i
   turned-ready i is =

@@ -13,7 +13,7 @@ use Rattle.figures.specs.Hand.{Hand, withCounts, demote}
 use Rattle.figures.specs.Cart.{demotion}
 use Rattle.engine.specs.declared.counts.Kept.{Kept}
 use Rattle.engine.specs.declared.counts.Evicted.{Evicted}
-use Rattle.engine.specs.Passes.{Accounts, ShowsHand, Evicts}
+use Rattle.engine.specs.Passes.{Accounts, ShowsHand, EvictedWithCounts}
 
 -- The chosen list has a head: T1 at its target is not empty, and T1 under it is not the whole cache.
 pub at-target-some : (d : Directory) → t1AtTarget d ≡ true → 1 ≤ ∣ d .t1 ∣
@@ -40,7 +40,7 @@ module _ (h : Hand) (e : Entry) (es : List Entry) where
 module _ {W : Type 0} {Shows : Directory → W → Type 0} {w w₁ : W} {k : Kept} (h : Hand) (e : Entry) (es : List Entry) {page : ℕ}
     (holds : ShowsHand Shows h w k) (page-is : page ≡ e .page) where
   pub demotes-T1 : t1AtTarget (h .dir) ≡ true → h .dir .t1 ≡ e ∷ es → Shows (toTail B1 (demoted e) (withList T1 es (h .dir))) w₁
-      → Evicts Shows (demotion h) (evictedAs page 1 (k .short .0 - 1) (k .long .0) k) w₁
+      → EvictedWithCounts Shows (demotion h) (evictedAs page 1 (k .short .0 - 1) (k .long .0) k) w₁
   demotes-T1 test front shown =
       rw (from-t1 h e es test front) (record {
         evicted = record { page-is = page-is; list-is = refl; counts = omega (arith, holds .keeps); shown = shown };
@@ -49,7 +49,7 @@ module _ {W : Type 0} {Shows : Directory → W → Type 0} {w w₁ : W} {k : Kep
       })
 
   pub demotes-T2 : t1AtTarget (h .dir) ≡ false → h .dir .t2 ≡ e ∷ es → Shows (toTail B2 (demoted e) (withList T2 es (h .dir))) w₁
-      → Evicts Shows (demotion h) (evictedAs page 2 (k .short .0) (k .long .0 - 1) k) w₁
+      → EvictedWithCounts Shows (demotion h) (evictedAs page 2 (k .short .0) (k .long .0 - 1) k) w₁
   demotes-T2 test front shown =
       rw (from-t2 h e es test front) (record {
         evicted = record { page-is = page-is; list-is = refl; counts = omega (arith, holds .keeps); shown = shown };

@@ -18,7 +18,7 @@ use Rattle.engine.specs.declared.counts.LongCount.{LongCount}
 use Rattle.engine.specs.declared.counts.Kept.{Kept}
 use Rattle.engine.specs.Shown.{Makes}
 use Rattle.engine.specs.Heads.{frontOf, headTo}
-use Rattle.engine.specs.Passes.{goesOn, Accounts, Keeps, Passing, ShowsHand, Looked}
+use Rattle.engine.specs.Passes.{goesOn, Accounts, KeepsCounts, Passing, ShowsHand, Looked}
 use Rattle.engine.proofs.Accounts.{afterMove, t2-to-t1, t1-round, t1-to-t2, raise-keeps, lower-keeps}
 
 -- A list whose head has its bit set, or goes on, has one.
@@ -85,7 +85,7 @@ module _ {W : Type 0} (Shows : Directory → W → Type 0) where
     at : Hand
     turns : look h ≡ again (withDir (change (at .dir)) at)
     shown : Shows (at .dir) w₁
-    keeps : Keeps at k′
+    keeps : KeepsCounts at k′
     accounts : Accounts (h .dir) k → Accounts (at .dir) k′
 
 module _ {W : Type 0} {Shows : Directory → W → Type 0} {w : W} {k : Kept} (p : Passing Shows w k) where

@@ -7,7 +7,7 @@ use Rattle.figures.specs.Cart.{firstLook, secondLook, firstPass, secondPass, co
 use Rattle.figures.specs.Demands.{CartStops}
 use Rattle.laws.proofs.Repeats.{ends-once}
 use Rattle.engine.specs.declared.counts.Kept.{Kept}
-use Rattle.engine.specs.Shown.{Ended}
+use Rattle.engine.specs.Shown.{EndsWhere}
 use Rattle.engine.specs.Passes.{ShowsHand, Looked, PassEnds}
 
 module _ {W : Type 0} (Shows : Directory → W → Type 0) where
@@ -40,7 +40,7 @@ module _ {W : Type 0} {Shows : Directory → W → Type 0} {look : Hand → Look
       record { at = r .at; ends = r .rest (r .at) (last (stops (r .at) (r .holds))); holds = r .holds }
 
 -- The engine's repeat and the definition's end at one hand.
-ended-at : {look : Hand → Look} {h z : Hand} {Q : Hand → Type 0} → Ends look h z → Ended look h Q → Q z
+ended-at : {look : Hand → Look} {h z : Hand} {Q : Hand → Type 0} → Ends look h z → EndsWhere look h Q → Q z
 ended-at ends e = rw (ends-once (e .ends) ends) at (e .holds)
 
 -- Both passes of an engine end where the definition's do.

@@ -9,7 +9,7 @@ use Rattle.figures.specs.Hand.{Hand}
 use Rattle.figures.specs.Car.{choose}
 use Rattle.engine.specs.declared.Hand.{Hand as Counted}
 use Rattle.engine.specs.declared.Evicted.{Evicted}
-use Rattle.engine.specs.Shown.{Counts, Ended, EvictedAs}
+use Rattle.engine.specs.Shown.{Counts, EndsWhere, EvictedAs}
 
 -- The clock that line 24 chooses, and the history that a clock's pages are demoted to; nothing is demoted from a history.
 abbrev pub chosen : Directory → Name
@@ -22,7 +22,7 @@ historyOf B1 = B1
 historyOf B2 = B2
 
 -- Of a full directory between two looks: each set bit may still cost a move.
-pub record Ready (d : Directory) (k : Counted) : Type 0 where
+pub record CarReady (d : Directory) (k : Counted) : Type 0 where
   pub c-least : 1 ≤ d .c
   pub c-most : d .c ≤ 1024
   pub p-fits : d .p ≤ unit * d .c
@@ -36,7 +36,7 @@ module _ {W : Type 0} (Shows : Directory → W → Type 0) where
   pub record Turning (w : W) (k : Counted) : Type 0 where
     pub dir : Directory
     pub shown : Shows dir w
-    pub ready : Ready dir k
+    pub ready : CarReady dir k
 
   -- Clock i is the chosen one.
   abbrev pub Chosen : Name → W → Type 0
@@ -44,4 +44,4 @@ module _ {W : Type 0} (Shows : Directory → W → Type 0) where
 
   -- From every hand that is shown the published repeat ends, at the hand that is answered.
   abbrev pub EndsFrom : W → Counted → Evicted → W → Type 0
-  EndsFrom w k r w′ = (h : Hand) → Shows (h .dir) w → Counts h k → Ended choose h (λ z. EvictedAs Shows z r w′)
+  EndsFrom w k r w′ = (h : Hand) → Shows (h .dir) w → Counts h k → EndsWhere choose h (λ z. EvictedAs Shows z r w′)

@@ -14,7 +14,7 @@ use Rattle.engine.specs.declared.counts.ShortCount.{ShortCount}
 use Rattle.engine.specs.declared.counts.LongCount.{LongCount}
 use Rattle.engine.specs.declared.counts.Kept.{Kept}
 use Rattle.engine.specs.declared.counts.Evicted.{Evicted}
-use Rattle.engine.specs.Shown.{Counts, Ended, EvictedAs, PlacedAs}
+use Rattle.engine.specs.Shown.{Counts, EndsWhere, EvictedAs, PlacedAs}
 
 -- The history that trim takes from: B1 where |B1| > q or B2 is empty, else B2.
 abbrev pub oldestOf : ℕ → ℕ → ℕ → Name
@@ -39,7 +39,7 @@ pub record Accounts (d : Directory) (k : Kept) : Type 0 where
   pub cleared-most : k .hand .cleared ≤ k .hand .moves
 
 -- What is kept is what hand h keeps.
-pub record Keeps (h : Hand) (k : Kept) : Type 0 where
+pub record KeepsCounts (h : Hand) (k : Kept) : Type 0 where
   pub short-is : k .short .0 ≡ h .nS
   pub long-is : k .long .0 ≡ h .nL
   pub counts : Counts h (k .hand)
@@ -54,10 +54,10 @@ module _ {W : Type 0} (Shows : Directory → W → Type 0) where
   -- The memory shows hand h's directory, and what is kept is what h keeps.
   pub record ShowsHand (h : Hand) (w : W) (k : Kept) : Type 0 where
     pub shown : Shows (h .dir) w
-    pub keeps : Keeps h k
+    pub keeps : KeepsCounts h k
 
   -- A look at hand h leads back to the choice, with the hand that is shown then.
-  pub record Turned (look : Hand → Look) (h : Hand) (w : W) (k : Kept) : Type 0 where
+  pub record LooksAgain (look : Hand → Look) (h : Hand) (w : W) (k : Kept) : Type 0 where
     pub at : Hand
     pub turns : look h ≡ again at
     pub holds : ShowsHand at w k
@@ -66,11 +66,11 @@ module _ {W : Type 0} (Shows : Directory → W → Type 0) where
   pub record Looked (look : Hand → Look) (w : W) (k : Kept) (w′ : W) (k′ : Kept) : Type 0 where
     pub passing : Passing w′ k′
     pub one-move : k′ .hand .moves ≡ k .hand .moves + 1
-    pub turned : (h : Hand) → ShowsHand h w k → Turned look h w′ k′
+    pub turned : (h : Hand) → ShowsHand h w k → LooksAgain look h w′ k′
 
   -- A pass: from any hand that is shown its repeat ends, at a hand that is shown then.
   abbrev pub PassEnds : (Hand → Look) → W → Kept → W → Kept → Type 0
-  PassEnds look w k w′ k′ = (h : Hand) → ShowsHand h w k → Ended look h (λ z. ShowsHand z w′ k′)
+  PassEnds look w k w′ k′ = (h : Hand) → ShowsHand h w k → EndsWhere look h (λ z. ShowsHand z w′ k′)
 
   -- A whole pass: what Passing says holds again.
   pub record Passed (look : Hand → Look) (w : W) (k : Kept) (w′ : W) (k′ : Kept) : Type 0 where
@@ -78,14 +78,14 @@ module _ {W : Type 0} (Shows : Directory → W → Type 0) where
     pub ends : PassEnds look w k w′ k′
 
   -- The evicted page, its list and what is counted are those of hand z, and the memory shows its directory.
-  pub record Evicts (z : Hand) (r : Evicted) (w : W) : Type 0 where
+  pub record EvictedWithCounts (z : Hand) (r : Evicted) (w : W) : Type 0 where
     pub evicted : EvictedAs Shows z (r .out) w
     pub short-is : r .short .0 ≡ z .nS
     pub long-is : r .long .0 ≡ z .nL
 
   -- The demotion of any hand that is shown.
   abbrev pub Demotes : W → Kept → W → Evicted → Type 0
-  Demotes w k w′ r = (h : Hand) → ShowsHand h w k → Evicts (demotion h) r w′
+  Demotes w k w′ r = (h : Hand) → ShowsHand h w k → EvictedWithCounts (demotion h) r w′
 
   -- A page placed, whichever hand with these counts is shown.
   abbrev pub Places : ℕ → ShortCount → LongCount → W → ℕ → W → Type 0

@@ -23,7 +23,7 @@ servedOf kind out =
     record { kind = kind; page = out .page; list = out .list; moves = out .hand .moves; cleared = out .hand .cleared }
 
 -- The published repeat from hand h ends, at a hand of which Q holds.
-pub record Ended (look : Hand.Hand → Look) (h : Hand.Hand) (Q : Hand.Hand → Type 0) : Type 0 where
+pub record EndsWhere (look : Hand.Hand → Look) (h : Hand.Hand) (Q : Hand.Hand → Type 0) : Type 0 where
   pub at : Hand.Hand
   pub ends : Ends look h at
   pub holds : Q at

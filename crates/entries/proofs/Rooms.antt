@@ -74,11 +74,11 @@ freed {W = W} f d′ is o =
     }
 
 -- After trim there is room for one more entry.
-pub record Fits (d d′ : Directory) : Type 0 where
+pub record RoomForOne (d d′ : Directory) : Type 0 where
   pub one-fits : cached d′ + remembered d′ + 1 ≤ 2 * d .c
   pub same-c : d′ .c ≡ d .c
 
-pub room-for-new : (d d′ : Directory) {w : List ℕ} → Holds d′ w → Fits d d′ → d .c ≤ 1024 → Room w × (startOf 4 w + 2 ≤ ∣ w ∣)
+pub room-for-new : (d d′ : Directory) {w : List ℕ} → Holds d′ w → RoomForOne d d′ → d .c ≤ 1024 → Room w × (startOf 4 w + 2 ≤ ∣ w ∣)
 room-for-new d d′ is fits small =
     let c = fits .same-c in
     let one = fits .one-fits in

@@ -24,12 +24,12 @@ module _ {w : List ℕ} {a : ℕ} {l : List Entry} {i : ℕ} (s : EntryAt w a l 
   index-later not = rw (s .front, ne-eqb (s .here .page) x (λ is. not (s .page-word ∙ is)))
 
 -- Page x stands at k among the n entries from word a on, as `find` says.
-abbrev pub Found : List ℕ → ℕ → ℕ → ℕ → ℕ → Type 0
-Found w a n x k = OfEntries w a n (λ l. k ≡ index x l)
+abbrev pub IndexFound : List ℕ → ℕ → ℕ → ℕ → ℕ → Type 0
+IndexFound w a n x k = OfEntries w a n (λ l. k ≡ index x l)
 
 -- the page of entry i, looked for among the later entries
 module _ {w : List ℕ} {a n i k : ℕ} {l : List Entry} (h : Held w a l) (many : length l ≡ n) (inside : i < n)
-    (found : Found w (a + 2 * i + 2) (n - i - 1) (getD w (a + 2 * i) 0) k) where
+    (found : IndexFound w (a + 2 * i + 2) (n - i - 1) (getD w (a + 2 * i) 0) k) where
   abbrev s : EntryAt w a l i
   s = entry-at h i (omega arith)
 
@@ -50,7 +50,7 @@ module _ {w : List ℕ} {a n i k : ℕ} {l : List Entry} (h : Held w a l) (many 
 
 -- What `find` says where list i of a directory is searched.
 module _ (d : Directory) (w : List ℕ) (is : Holds d w) (i : ℕ) (named : i ≤ 3) (a n x k : ℕ)
-    (found : Found w a n x k) (start : a ≡ startOf i w) (size : n ≡ getD w (4 + i) 0) where
+    (found : IndexFound w a n x k) (start : a ≡ startOf i w) (size : n ≡ getD w (4 + i) 0) where
   pub found-index : k ≡ index x (listOf (nameOf i) d)
   found-index = told (list-held d w is i named) found (sym start) (sym (length-of-list i d w is named) ∙ sym size)
 

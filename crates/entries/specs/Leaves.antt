@@ -50,8 +50,8 @@ CameBack b k t page f′ w w′ =
     → Holds (toTail (nameOf t) e′ (withList (nameOf b) (without page (listOf (nameOf b) d)) d)) w′
 
 -- The head of the history b is dropped.
-abbrev pub HeadDropped : ℕ → List ℕ → List ℕ → Type 0
-HeadDropped b w w′ =
+abbrev pub HistoryHeadDropped : ℕ → List ℕ → List ℕ → Type 0
+HistoryHeadDropped b w w′ =
     (d : Directory) → Holds d w → cached d + remembered d ≤ 2 * d .c
     → Holds (withList (nameOf b) (dropHead (listOf (nameOf b) d)) d) w′
 
@@ -72,5 +72,5 @@ abbrev pub FoundIn : ℕ → ℕ → List ℕ → ℕ → Type 0
 FoundIn i x w k = (k ≤ getD w (4 + i) 0) × ((d : Directory) → Holds d w → k ≡ index x (listOf (nameOf i) d))
 
 -- So many entries have the flag.
-abbrev pub Counted : List ℕ → ℕ → ℕ → ℕ → ℕ → Type 0
-Counted w a n flag r = (r ≤ n) × OfEntries w a n (λ l. r ≡ total (ofFlag flag) l)
+abbrev pub FlagCounted : List ℕ → ℕ → ℕ → ℕ → ℕ → Type 0
+FlagCounted w a n flag r = (r ≤ n) × OfEntries w a n (λ l. r ≡ total (ofFlag flag) l)

@@ -7,7 +7,7 @@ ghost use Rattle.figures.specs.Directory.{placeNew};
 ghost use Rattle.engine.specs.Shown.{Makes};
 ghost use Rattle.entries.specs.Holds.{Holds};
 ghost use Rattle.entries.specs.Stretches.{Room, startOf};
-ghost use Rattle.entries.specs.Leaves.{FoundIn, HeadMoved, BorderMoved, CameBack, HeadDropped, Marked};
+ghost use Rattle.entries.specs.Leaves.{FoundIn, HeadMoved, BorderMoved, CameBack, HistoryHeadDropped, Marked};
 use crate::flags;
 use crate::header;
 use crate::search;
@@ -122,7 +122,7 @@ pub fn come_back(dir: &mut [u32], b: usize, k: usize, t: usize, page: u32, flags
 pub fn drop_head(dir: &mut [u32], b: usize)
     requires { ⌜ Room (now dir) ⌝ }
     requires { ⌜ (2 ≤ b) × (b ≤ 3) × (1 ≤ getD (now dir) (4 + b) 0) ⌝ }
-    ensures { λ _. ⌜ HeadDropped b (now (dir .entry)) (now (dir .exit)) ⌝ }
+    ensures { λ _. ⌜ HistoryHeadDropped b (now (dir .entry)) (now (dir .exit)) ⌝ }
 {
     let a = start_of(dir, b);
     let e = start_of(dir, END);

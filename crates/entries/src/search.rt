@@ -7,7 +7,7 @@ ghost use Rattle.figures.specs.Entry.{differ};
 ghost use Rattle.terms.specs.Choice.{allAtMost};
 ghost use Rattle.figures.specs.Words.{mostFlags};
 ghost use Rattle.figures.specs.Sound.{flagWords};
-ghost use Rattle.entries.specs.Leaves.{OfEntries, FoundAt, Counted};
+ghost use Rattle.entries.specs.Leaves.{OfEntries, FoundAt, FlagCounted};
 use crate::flags;
 use crate::header;
 
@@ -29,7 +29,7 @@ pub fn find(dir: &[u32], a: usize, n: usize, page: u32) -> usize
 // How many of the n entries from word a on have a flag.
 pub fn count(dir: &[u32], a: usize, n: usize, flag: u32) -> u32
     requires { ⌜ (a + 2 * n ≤ length (now dir)) × (length (now dir) ≤ 4104) × (1 ≤ flag) × (flag ≤ 2) ⌝ }
-    ensures { λ r. ⌜ Counted (now (dir .entry)) a n flag r ⌝ }
+    ensures { λ r. ⌜ FlagCounted (now (dir .entry)) a n flag r ⌝ }
 {
     let mut sum = 0u32;
     let mut i = 0;

@@ -81,17 +81,17 @@ onRequest w x =
     let served = servedRequest (request x (decode w)) in
     if eqb (checkNumber w) accepted then served else refusedRequest (checkNumber w) w
 
-pub record Replayed : Type 0 where
+pub record RunAnswered : Type 0 where
   pub number : ℕ
   pub tally : Tally
   pub words : List ℕ
   pub answers : List ℕ
 
-abbrev pub refusedRun : ℕ → List ℕ → List ℕ → Replayed
+abbrev pub refusedRun : ℕ → List ℕ → List ℕ → RunAnswered
 refusedRun n w answers = record { number = n; tally = zeroTally; words = w; answers = answers }
 
 -- The answers in order, and the later words of the buffer as they were.
-abbrev pub servedRun : Ran → List ℕ → Replayed
+abbrev pub servedRun : Ran → List ℕ → RunAnswered
 servedRun r answers = record {
   number = accepted;
   tally = r .tally;
@@ -99,7 +99,7 @@ servedRun r answers = record {
   answers = r .answers ++ drop ∣ r .answers ∣ answers;
 }
 
-unfoldable pub onRun : List ℕ → List ℕ → List ℕ → Replayed
+unfoldable pub onRun : List ℕ → List ℕ → List ℕ → RunAnswered
 onRun w trace answers =
     let n = runNumber w trace answers in
     let served = servedRun (run trace (decode w)) answers in

@@ -18,35 +18,35 @@ use Rattle.figures.specs.Demands.{CarStops, T2StaysChosen, Evicts, CarTrimHasHe
 use Rattle.laws.proofs.Entries.{set-bits, clear-bits}
 use Rattle.laws.proofs.Lists.{length-tail, length-head-dropped, length-marked, length-without-at-most}
 use Rattle.laws.proofs.Lists.{total-tail, total-head-dropped, total-without, total-marked-same}
-use Rattle.laws.proofs.Repeats.{ComesTo, Ended, repeat-ends}
+use Rattle.laws.proofs.Repeats.{ComesTo, EndsWith, repeat-ends}
 use Rattle.laws.proofs.Facts.{Shared, CarFacts, Opened, Trimmed}
 use Rattle.laws.proofs.Turns.{holding, Turned, not-turned, turnedTo, Exchanged, turned-on, chosen}
-use Rattle.laws.proofs.Turns.{Evicted, evicted-t1, evicted-t2, dropped-b1, dropped-b2, trimmed-not, trimmed-b1, trimmed-b2}
+use Rattle.laws.proofs.Turns.{Demoted, evicted-t1, evicted-t2, dropped-b1, dropped-b2, trimmed-not, trimmed-b1, trimmed-b2}
 
 -- The accounts that a hand keeps; what looks keep, and what the last one leaves, which moves and clears no bit.
 
-record Accounted (more : ℕ) (a : Hand) : Type 0 where
+record CarAccounted (more : ℕ) (a : Hand) : Type 0 where
   own : CarFacts (a .dir)
   moves-are-bits : a .moves ≡ a .cleared + more
 
-record Turning (d : Directory) (a : Hand) : Type 0 where
+record CarTurning (d : Directory) (a : Hand) : Type 0 where
   turned : Turned d a
-  accounted : Accounted 0 a
+  accounted : CarAccounted 0 a
 
-record Outcome (d : Directory) (z : Hand) : Type 0 where
-  evicted : Evicted d z
-  accounted : Accounted 1 z
+record CarOutcome (d : Directory) (z : Hand) : Type 0 where
+  evicted : Demoted d z
+  accounted : CarAccounted 1 z
 
 abbrev left : Hand → ℕ
 left a = inCache bits (a .dir)
 
 module _ (d : Directory) (shared : Shared d) (own : CarFacts d) (full : cached d ≡ d .c) where
-  abbrev Looked : Hand → Look → Type 0
-  Looked = ComesTo (Turning d) (Outcome d) left
+  abbrev CarLooked : Hand → Look → Type 0
+  CarLooked = ComesTo (CarTurning d) (CarOutcome d) left
 
   -- A head with its bit set goes to T2's tail.
-  turns : {a : Hand} {t1 t2 : List Entry} (e : Entry) → e .bit ≡ true → Turning d a → Exchanged e e t1 t2 (a .dir)
-      → ∣ t1 ∣ ≤ ∣ a .dir .t1 ∣ → Looked a (again (turnedTo e t1 t2 (a .dir .q) (a .nS) (a .nL) a))
+  turns : {a : Hand} {t1 t2 : List Entry} (e : Entry) → e .bit ≡ true → CarTurning d a → Exchanged e e t1 t2 (a .dir)
+      → ∣ t1 ∣ ≤ ∣ a .dir .t1 ∣ → CarLooked a (again (turnedTo e t1 t2 (a .dir .q) (a .nS) (a .nL) a))
   turns e set t exchanged fewer = record {
     good = record {
       turned = turned-on (t .turned) e e refl exchanged;
@@ -55,34 +55,34 @@ module _ (d : Directory) (shared : Shared d) (own : CarFacts d) (full : cached d
     less = omega (arith, exchanged bits, set-bits e set);
   }
 
-  from-t1 : (l : List Entry) (a : Hand) → let h = holding T1 l a in Turning d h → 1 ≤ ∣ l ∣ → Looked h (look T1 B1 l h)
+  from-t1 : (l : List Entry) (a : Hand) → let h = holding T1 l a in CarTurning d h → 1 ≤ ∣ l ∣ → CarLooked h (look T1 B1 l h)
   from-t1 [] a t some = absurd (omega arith)
   from-t1 (e ∷ es) a t some =
-      by-test (Looked (holding T1 (e ∷ es) a)) (e .bit)
+      by-test (CarLooked (holding T1 (e ∷ es) a)) (e .bit)
       (λ set. turns e set t (λ count. omega (arith, total-tail count (a .dir .t2) (cleared e))) (omega arith))
       (λ clear. record {
         evicted = evicted-t1 shared e es a (t .turned) (clear-bits e clear .0);
         accounted = omega (arith, total-tail long (a .dir .b1) (demoted e), length-tail (a .dir .b1) (demoted e));
       })
 
-  from-t2 : (l : List Entry) (a : Hand) → let h = holding T2 l a in Turning d h → 1 ≤ ∣ l ∣ → Looked h (look T2 B2 l h)
+  from-t2 : (l : List Entry) (a : Hand) → let h = holding T2 l a in CarTurning d h → 1 ≤ ∣ l ∣ → CarLooked h (look T2 B2 l h)
   from-t2 [] a t some = absurd (omega arith)
   from-t2 (e ∷ es) a t some =
-      by-test (Looked (holding T2 (e ∷ es) a)) (e .bit)
+      by-test (CarLooked (holding T2 (e ∷ es) a)) (e .bit)
       (λ set. turns e set t (λ count. omega (arith, total-tail count es (cleared e))) (omega arith))
       (λ clear. record {
         evicted = evicted-t2 shared e es a (t .turned) (clear-bits e clear .0);
         accounted = omega (arith, total-tail long (a .dir .b2) (demoted e));
       })
 
-  looks : (a : Hand) → Turning d a → Looked a (choose a)
-  looks a t = chosen shared full (Looked a) (t .turned) (from-t1 (a .dir .t1) a t) (from-t2 (a .dir .t2) a t)
+  looks : (a : Hand) → CarTurning d a → CarLooked a (choose a)
+  looks a t = chosen shared full (CarLooked a) (t .turned) (from-t1 (a .dir .t1) a t) (from-t2 (a .dir .t2) a t)
 
-  ended : Ended choose (Outcome d) (begin 0 0 d) (evict d)
+  ended : EndsWith choose (CarOutcome d) (begin 0 0 d) (evict d)
   unfolding evict
   ended =
-      let begins : Turning d (begin 0 0 d) = record { turned = not-turned 0 0 d; accounted = omega arith } in
-      repeat-ends choose (Turning d) (Outcome d) left looks _ _ begins (omega arith)
+      let begins : CarTurning d (begin 0 0 d) = record { turned = not-turned 0 0 d; accounted = omega arith } in
+      repeat-ends choose (CarTurning d) (CarOutcome d) left looks _ _ begins (omega arith)
 
   pub car-stops : CarStops d
   car-stops = ended .by-itself

@@ -22,10 +22,10 @@ use Rattle.figures.specs.Demands.{Evicts, CartStops, HeadDropped, CartTrimHasHe
 use Rattle.laws.proofs.Entries.{set-bits, clear-bits, short-filter, long-filter}
 use Rattle.laws.proofs.Lists.{atHead, head-of-tail, short-or-long}
 use Rattle.laws.proofs.Lists.{total-tail, total-without, total-marked-same, total-head-dropped}
-use Rattle.laws.proofs.Repeats.{ComesTo, Ended, repeat-ends}
+use Rattle.laws.proofs.Repeats.{ComesTo, EndsWith, repeat-ends}
 use Rattle.laws.proofs.Facts.{Shared, CartFacts, Opened, Trimmed}
 use Rattle.laws.proofs.Turns.{holding, Turned, not-turned, turnedTo, Exchanged, turned-on, chosen}
-use Rattle.laws.proofs.Turns.{Evicted, evicted-t1, evicted-t2, dropped-b1, dropped-b2, trimmed-not, trimmed-b1, trimmed-b2}
+use Rattle.laws.proofs.Turns.{Demoted, evicted-t1, evicted-t2, dropped-b1, dropped-b2, trimmed-not, trimmed-b1, trimmed-b2}
 
 pub cost-at-most-two : (e : Entry) → cost e ≤ 2
 cost-at-most-two e = either (λ n. n ≤ 2) (e .bit) (omega arith) (omega (arith, short-or-long (e .filter)))
@@ -46,15 +46,15 @@ raise-leaves P nS d fits p =
 
 -- The accounts that a hand keeps; what both passes keep, and what a turn must bring for that.
 
-record Accounted (most : ℕ) (a : Hand) : Type 0 where
+record CartAccounted (most : ℕ) (a : Hand) : Type 0 where
   own : CartFacts (a .dir)
   nS-counts : a .nS ≡ inCache short (a .dir)
   nL-counts : a .nL ≡ inCache long (a .dir)
   moves-paid : a .moves + owing (a .dir) ≤ most
 
-record Passing (d : Directory) (a : Hand) : Type 0 where
+record CartPassing (d : Directory) (a : Hand) : Type 0 where
   turned : Turned d a
-  accounted : Accounted (owing d) a
+  accounted : CartAccounted (owing d) a
 
 record TurnKeeps (e e′ : Entry) (a b : Hand) : Type 0 where
   own : CartFacts (b .dir)
@@ -63,8 +63,8 @@ record TurnKeeps (e e′ : Entry) (a b : Hand) : Type 0 where
   pays : 1 + owing (b .dir) ≤ owing (a .dir)
 
 turn-keeps : {d : Directory} {a : Hand} {t1 t2 : List Entry} {q nS nL : ℕ} (e e′ : Entry) → e′ .page ≡ e .page
-    → Passing d a → Exchanged e e′ t1 t2 (a .dir)
-    → let b = turnedTo e t1 t2 q nS nL a in TurnKeeps e e′ a b → Passing d b
+    → CartPassing d a → Exchanged e e′ t1 t2 (a .dir)
+    → let b = turnedTo e t1 t2 q nS nL a in TurnKeeps e e′ a b → CartPassing d b
 turn-keeps e e′ same-page passing exchanged keeps = record {
   turned = turned-on (passing .turned) e e′ same-page exchanged;
   accounted = omega (arith, exchanged short, exchanged long);
@@ -72,7 +72,7 @@ turn-keeps e e′ same-page passing exchanged keeps = record {
 
 -- After the first pass T2 is empty or its head has its bit clear.
 record Settling (d : Directory) (a : Hand) : Type 0 where
-  passing : Passing d a
+  passing : CartPassing d a
   t2-clear : atHead bits (a .dir .t2) ≡ 0
 
 -- After the second T1 is empty or its head is S with its bit clear.
@@ -88,13 +88,13 @@ leftSecond a = total cost (a .dir .t1)
 
 module _ (d : Directory) where
   abbrev FirstLooked : Hand → Look → Type 0
-  FirstLooked = ComesTo (Passing d) (Settling d) leftFirst
+  FirstLooked = ComesTo (CartPassing d) (Settling d) leftFirst
 
   abbrev SecondLooked : Hand → Look → Type 0
   SecondLooked = ComesTo (Settling d) (Settled d) leftSecond
 
   -- T2's head: with its bit set it goes to T1's tail.
-  at-t2 : (l : List Entry) (a : Hand) → let h = holding T2 l a in Passing d h → FirstLooked h (firstLook h)
+  at-t2 : (l : List Entry) (a : Hand) → let h = holding T2 l a in CartPassing d h → FirstLooked h (firstLook h)
   at-t2 [] a passing = record { passing = passing; t2-clear = refl }
   at-t2 (e ∷ es) a passing =
       let t1 = a .dir .t1 in
@@ -110,7 +110,7 @@ module _ (d : Directory) where
       }))
       (λ clear. record { passing = passing; t2-clear = clear-bits e clear .0 })
 
-  first-looks : (a : Hand) → Passing d a → FirstLooked a (firstLook a)
+  first-looks : (a : Hand) → CartPassing d a → FirstLooked a (firstLook a)
   first-looks a = at-t2 (a .dir .t2) a
 
   module _ (e : Entry) (es : List Entry) (a : Hand) where
@@ -175,43 +175,43 @@ module _ (d : Directory) where
 
 -- What the evict part leaves.
 
-record Outcome (d : Directory) (z : Hand) : Type 0 where
-  evicted : Evicted d z
-  accounted : Accounted (1 + owing d) z
+record CartOutcome (d : Directory) (z : Hand) : Type 0 where
+  evicted : Demoted d z
+  accounted : CartAccounted (1 + owing d) z
 
 module _ (d : Directory) (shared : Shared d) (own : CartFacts d) (full : cached d ≡ d .c) where
-  first : Ended firstLook (Settling d) (counted d) (firstPass (counted d))
+  first : EndsWith firstLook (Settling d) (counted d) (firstPass (counted d))
   unfolding firstPass
   first =
-      let begins : Passing d (counted d) = record { turned = not-turned _ _ d; accounted = omega arith } in
-      repeat-ends firstLook (Passing d) (Settling d) leftFirst (first-looks d) _ _ begins (omega arith)
+      let begins : CartPassing d (counted d) = record { turned = not-turned _ _ d; accounted = omega arith } in
+      repeat-ends firstLook (CartPassing d) (Settling d) leftFirst (first-looks d) _ _ begins (omega arith)
 
-  second : Ended secondLook (Settled d) (firstPass (counted d)) (secondPass (firstPass (counted d)))
+  second : EndsWith secondLook (Settled d) (firstPass (counted d)) (secondPass (firstPass (counted d)))
   unfolding secondPass
   second = repeat-ends secondLook (Settling d) (Settled d) leftSecond (second-looks d) _ _ (first .holds) (omega arith)
 
   pub cart-stops : CartStops d
   cart-stops = record { first = first .by-itself; second = second .by-itself }
 
-  from-t1 : (l : List Entry) (a : Hand) → let h = holding T1 l a in Settled d h → 1 ≤ ∣ l ∣ → Outcome d (demoteT1 l h)
+  from-t1 : (l : List Entry) (a : Hand) → let h = holding T1 l a in Settled d h → 1 ≤ ∣ l ∣ → CartOutcome d (demoteT1 l h)
   from-t1 [] a settled some = absurd (omega arith)
   from-t1 (e ∷ es) a settled some = record {
     evicted = evicted-t1 shared e es a (settled .settling .passing .turned) (omega (arith, cost-counts e));
     accounted = omega (arith, cost-counts e, short-or-long (e .filter), total-tail long (a .dir .b1) (demoted e));
   }
 
-  from-t2 : (l : List Entry) (a : Hand) → let h = holding T2 l a in Settled d h → 1 ≤ ∣ l ∣ → Outcome d (demoteT2 l h)
+  from-t2 : (l : List Entry) (a : Hand) → let h = holding T2 l a in Settled d h → 1 ≤ ∣ l ∣ → CartOutcome d (demoteT2 l h)
   from-t2 [] a settled some = absurd (omega arith)
   from-t2 (e ∷ es) a settled some = record {
     evicted = evicted-t2 shared e es a (settled .settling .passing .turned) (settled .settling .t2-clear);
     accounted = omega (arith, short-or-long (e .filter), total-tail short (a .dir .b2) (demoted e));
   }
 
-  demotes : (a : Hand) → Settled d a → Outcome d (demotion a)
+  demotes : (a : Hand) → Settled d a → CartOutcome d (demotion a)
   demotes a settled =
-      chosen shared full (Outcome d) (settled .settling .passing .turned) (from-t1 (a .dir .t1) a settled) (from-t2 (a .dir .t2) a settled)
+      chosen shared full (CartOutcome d) (settled .settling .passing .turned) (from-t1 (a .dir .t1) a settled) (from-t2 (a .dir .t2) a settled)
 
-  outcome : Outcome d (evict d)
+  outcome : CartOutcome d (evict d)
   unfolding evict
   outcome = demotes (secondPass (firstPass (counted d))) (second .holds)
 

@@ -19,7 +19,7 @@ use Rattle.figures.specs.Demands.{RowsNumbered}
 use Rattle.laws.proofs.Lists.{is, total-tail, total-at-most, total-marked-at-most, bits-at-most-one}
 use Rattle.laws.proofs.Facts.{Shared, CarFacts, CartFacts}
 use Rattle.laws.proofs.Soundness.{car-iff, cart-iff}
-use Rattle.laws.proofs.Placing.{CameBack, hit-either, hit-keeps, hit-cached, raised}
+use Rattle.laws.proofs.Placing.{BackInCache, hit-either, hit-keeps, hit-cached, raised}
 use Rattle.laws.proofs.Placing.{car-B1-back, car-B2-back, cart-B1-back, cart-B2-back}
 use Rattle.laws.proofs.Car.{car-evicts, car-moves, car-opens, car-opened, car-trims}
 use Rattle.laws.proofs.Car.{car-places-new, car-places-B1, car-places-B2, car-hits, car-has-room}
@@ -27,7 +27,7 @@ use Rattle.laws.proofs.Cart.{cost-at-most-two, cart-evicts, cart-moves,
 use Rattle.laws.proofs.Cart.{cart-places-new, cart-places-B1, cart-places-B2, cart-hits, cart-has-room}
 use Rattle.laws.proofs.Laws.{Left, Keeps, Pays, Lawful}
 
-came-back-left : (Own : Directory → Type 0) (x : ℕ) (d d′ : Directory) → CameBack x d d′ → Own d′ → Left Own x d d′
+came-back-left : (Own : Directory → Type 0) (x : ℕ) (d d′ : Directory) → BackInCache x d d′ → Own d′ → Left Own x d d′
 came-back-left Own x d d′ b own =
     record { shared = b .shared; own = own; is-cached = b .is-cached; same-policy = b .same-policy; same-c = b .same-c }
 

@@ -265,14 +265,14 @@ raised P nS d any =
     either P (leb (d .c) (∣ d .t2 ∣ + ∣ d .b2 ∣ + ∣ d .t1 ∣ - nS)) (any (min (d .q + 1) (2 * d .c - ∣ d .t1 ∣))) (any (d .q))
 
 -- What a page that comes back leaves: the cache has it, and all policies' common rules hold.
-pub record CameBack (x : ℕ) (d d′ : Directory) : Type 0 where
+pub record BackInCache (x : ℕ) (d d′ : Directory) : Type 0 where
   pub shared : Shared d′
   pub is-cached : 1 ≤ inCache (is x) d′
   pub same-policy : d′ .policy ≡ d .policy
   pub same-c : d′ .c ≡ d .c
 
 came-back : (x : ℕ) (d d′ : Directory) → Open x d → d′ .policy ≡ d .policy → d′ .c ≡ d .c → d′ .p ≤ unit * d .c → Enters x d d′ → Leaves x d d′
-    → CameBack x d d′
+    → BackInCache x d d′
 came-back x d d′ o policy c p e l = record {
   shared = back-keeps x d d′ o c p e l;
   is-cached = omega (arith, e .pages x, ap {B = ℕ} (λ (b : Bool). if b then 1 else 0) (eq-eqb x x refl));
@@ -281,25 +281,25 @@ came-back x d d′ o policy c p e l = record {
 }
 
 module _ (x : ℕ) (h : Hand) (o : Open x (h .dir)) where
-  pub car-B1-back : has x (h .dir .b1) ≡ true → CameBack x (h .dir) (Car.placeB1 x h)
+  pub car-B1-back : has x (h .dir .b1) ≡ true → BackInCache x (h .dir) (Car.placeB1 x h)
   unfolding Car.placeB1
   car-B1-back found =
       came-back x (h .dir) _ o refl refl (omega arith) (enters-T2 x (h .dir) _ (newShort x) refl refl refl) (leaves-B1 x (h .dir) _ found refl refl)
 
-  pub car-B2-back : has x (h .dir .b2) ≡ true → CameBack x (h .dir) (Car.placeB2 x h)
+  pub car-B2-back : has x (h .dir .b2) ≡ true → BackInCache x (h .dir) (Car.placeB2 x h)
   unfolding Car.placeB2
   car-B2-back found =
       let p = o .p-fits in
       came-back x (h .dir) _ o refl refl (omega arith) (enters-T2 x (h .dir) _ (newShort x) refl refl refl) (leaves-B2 x (h .dir) _ found refl refl)
 
-  pub cart-B1-back : has x (h .dir .b1) ≡ true → CameBack x (h .dir) (Cart.placeB1 x h)
+  pub cart-B1-back : has x (h .dir .b1) ≡ true → BackInCache x (h .dir) (Cart.placeB1 x h)
   unfolding Cart.placeB1
   cart-B1-back found =
       came-back x (h .dir) _ o refl refl (omega arith) (enters-T1 x (h .dir) _ (newLong x) refl refl refl) (leaves-B1 x (h .dir) _ found refl refl)
 
-  pub cart-B2-back : has x (h .dir .b2) ≡ true → CameBack x (h .dir) (Cart.placeB2 x h)
+  pub cart-B2-back : has x (h .dir .b2) ≡ true → BackInCache x (h .dir) (Cart.placeB2 x h)
   unfolding Cart.placeB2
   cart-B2-back found =
       let p = o .p-fits in
-      raised (CameBack x (h .dir)) (h .nS) (Cart.backFromB2 x h) (λ q.
+      raised (BackInCache x (h .dir)) (h .nS) (Cart.backFromB2 x h) (λ q.
       came-back x (h .dir) _ o refl refl (omega arith) (enters-T1 x (h .dir) _ (newLong x) refl refl refl) (leaves-B2 x (h .dir) _ found refl refl))

@@ -17,22 +17,22 @@ ComesTo Good End left a (stop z) = End z
 ComesTo Good End left a none = ⊥
 
 -- From a the repeat ends at z, where End holds.
-pub record Ended (look : Hand → Look) (End : Hand → Type 0) (a z : Hand) : Type 0 where
+pub record EndsWith (look : Hand → Look) (End : Hand → Type 0) (a z : Hand) : Type 0 where
   pub by-itself : Ends look a z
   pub holds : End z
 
 module _ (look : Hand → Look) (Good End : Hand → Type 0) (left : Hand → ℕ)
     (leads : (a : Hand) → Good a → ComesTo Good End left a (look a)) where
-  step : (k : ℕ) → ((a : Hand) → Good a → left a < k → Ended look End a (repeat look k a))
+  step : (k : ℕ) → ((a : Hand) → Good a → left a < k → EndsWith look End a (repeat look k a))
       → (a : Hand) → left a < suc k → (l : Look) → look a ≡ l → ComesTo Good End left a l
-      → Ended look End a (onward l a (repeat look k))
+      → EndsWith look End a (onward l a (repeat look k))
   step k ih a h (again b) is nearer =
       let r = ih b (nearer .good) (omega arith) in
       record { by-itself = next is (r .by-itself); holds = r .holds }
   step k ih a h (stop z) is holds = record { by-itself = last is; holds = holds }
   step k ih a h none is never = absurd never
 
-  pub repeat-ends : (k : ℕ) (a : Hand) → Good a → left a < k → Ended look End a (repeat look k a)
+  pub repeat-ends : (k : ℕ) (a : Hand) → Good a → left a < k → EndsWith look End a (repeat look k a)
   unfolding repeat
   repeat-ends zero a good h = absurd (omega arith)
   repeat-ends (suc k) a good h = step k (repeat-ends k) a h (look a) refl (leads a good)

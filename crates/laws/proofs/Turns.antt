@@ -83,7 +83,7 @@ module _ {d : Directory} {a : Hand} (t : Turned d a) where
 
 -- Both figures choose between T1 and T2 by one test, and the chosen list has a head; its head is then demoted to its history.
 
-pub record Evicted (d : Directory) (z : Hand) : Type 0 where
+pub record Demoted (d : Directory) (z : Hand) : Type 0 where
   pub opens : Opened d (z .dir)
   pub evicts : Evicts d z
   pub remembers : remembered (z .dir) ≡ remembered d + 1
@@ -110,7 +110,7 @@ module _ {d : Directory} (shared : Shared d) where
       → (1 ≤ list) × (list ≤ 2)
       → ((count : Entry → ℕ) → total count t1 + total count t2 + count e ≡ inCache count (a .dir))
       → ((count : Entry → ℕ) → total count b1 + total count b2 ≡ inHistory count (a .dir) + count (demoted e))
-      → Evicted d (demotedTo e list t1 t2 b1 b2 nS nL a)
+      → Demoted d (demotedTo e list t1 t2 b1 b2 nS nL a)
   evicted {a} {t1 = t1} {t2 = t2} {b1 = b1} {b2 = b2} t e clear named taken given =
       let d′ = withLists t1 t2 b1 b2 (a .dir) in
       let remembers : remembered d′ ≡ remembered d + 1 =
@@ -138,13 +138,13 @@ module _ {d : Directory} (shared : Shared d) where
       }
 
   pub evicted-t1 : {nS nL : ℕ} (e : Entry) (es : List Entry) (a : Hand)
-      → let h = holding T1 (e ∷ es) a in Turned d h → bits e ≡ 0 → Evicted d (withCounts nS nL (demote T1 B1 e es h))
+      → let h = holding T1 (e ∷ es) a in Turned d h → bits e ≡ 0 → Demoted d (withCounts nS nL (demote T1 B1 e es h))
   evicted-t1 e es a t clear =
       evicted t e clear (omega arith) (λ count. omega arith)
       (λ count. omega (arith, total-tail count (a .dir .b1) (demoted e)))
 
   pub evicted-t2 : {nS nL : ℕ} (e : Entry) (es : List Entry) (a : Hand)
-      → let h = holding T2 (e ∷ es) a in Turned d h → bits e ≡ 0 → Evicted d (withCounts nS nL (demote T2 B2 e es h))
+      → let h = holding T2 (e ∷ es) a in Turned d h → bits e ≡ 0 → Demoted d (withCounts nS nL (demote T2 B2 e es h))
   evicted-t2 e es a t clear =
       evicted t e clear (omega arith) (λ count. omega arith)
       (λ count. omega (arith, total-tail count (a .dir .b2) (demoted e)))

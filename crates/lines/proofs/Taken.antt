@@ -47,8 +47,8 @@ use denote.Triple.Table.{cited}
 use denote.Triple.Clauses.{Clauses, ensured, lasts, closing}
 use Rattle.lines.specs.Stretch.{LookedUp}
 use Rattle.lines.specs.declared.Found.{Found}
-use Rattle.lines.proofs.Walk.{Bytes, val, Own, Alive, Answer, answers}
-use Rattle.lines.proofs.Walk.{ended, passed, Entry, Ensured, Left, hands, leaves, by-walk}
+use Rattle.lines.proofs.Walk.{Bytes, val, OwnsBytes, Alive, Answer, answers}
+use Rattle.lines.proofs.Walk.{ended, passed, AtEntry, Ensured, WalkPost, hands, leaves, by-walk}
 use Rattle.lines.proofs.Found as T
 use Rattle.lines.proofs.Found.Laws as T′
 use Rattle.lines.proofs.look_up as look-up
@@ -125,22 +125,22 @@ module _ {M : Type 1} (𝓤 : URA M) (H : Heap 𝓤) (A : Atoms 𝓤) (mem : Mem
         -- what is had of an answer d at the end gives Q of the field
         walk : n < 2 ^ 32 → Is (Bytes κ) s (val s ∷ []) → (Q : Val → SProp 𝓤)
             → ((d : Found) → LookedUp s n d
-            → ent 𝓤 (⋆ 𝓤 H A (‵ (Row k κ .own (valued k κ d) (word k κ d ∷ [])) ∷ Alive κ q ∷ ‵ (Own κ s) ∷ []))
+            → ent 𝓤 (⋆ 𝓤 H A (‵ (Row k κ .own (valued k κ d) (word k κ d ∷ [])) ∷ Alive κ q ∷ ‵ (OwnsBytes κ s) ∷ []))
             (Q (word k κ d)))
-            → ent 𝓤 (⋆ 𝓤 H A (Entry w32 κ q s n))
+            → ent 𝓤 (⋆ 𝓤 H A (AtEntry w32 κ q s n))
             (WpFn 𝓤 H (𝓣 .C) (𝓣 .Λ) (taking k τ) (val s ∷ vint w32 n ∷ []) Q)
         walk n-fits is-slice Q exits =
             let typed = shr-slice-lawful 𝓤 H A W (named 0) κ u8 .typed s (val s ∷ []) is-slice .0 in
             -- the lifetime as the local's type has it
             let α₃ : NamedLft = record { mir = erased; lft = κ } in
             let Answers = T.the-row (α κ) in
-            qed W (Entry w32 κ q s n) ∵
+            qed W (AtEntry w32 κ q s n) ∵
             enter ! (𝓣 .C) (𝓣 .Λ) (taking k τ) (val s ∷ vint w32 n ∷ []) _ $
             alloc1 ! (λ l₀. alloc1 ! (λ l₁. alloc1 ! (λ l₂. alloc1 ! (λ l₃. alloc0 ! $ params1 ! $
             pass1 ! (init ! 4 refl typed) $ pass1 ! (init ! 2 refl (tt, record { fits = n-fits })) $ pass0 ! $
             -- [room for _3; …; _2; …; _1; …; room for _0; …; the token; what the parameters own]
             move ! (9 ∷ []) $ fsplit ! $ move ! (1 ∷ []) $ drop ! $ move ! (9 ∷ 0 ∷ []) $
-            use2 W (raw (LooksUp .pre to) ⊛ ‵ (Own κ s)) (hands 𝓤 H A W w32 κ q s n n-fits) $ split ! $
+            use2 W (raw (LooksUp .pre to) ⊛ ‵ (OwnsBytes κ s)) (hands 𝓤 H A W w32 κ q s n n-fits) $ split ! $
             -- _3 = look_up(_1, _2)
             calls-at ! (fmOf 𝓤 H (W .laws) 𝓣) LooksUp known to
             (and-then ! (load ! (from ! (stop !)) (look ! 6 refl))
@@ -189,5 +189,5 @@ module _ {M : Type 1} (𝓤 : URA M) (H : Heap 𝓤) (𝓜 : Model 𝓤 H) (𝓖
       by-walk 𝓤 H A W w32 (result k) c 𝓣 (taking k τ) (λ κ q s n g fits is-slice.
       walk 𝓤 H A (𝓜 .mem) (𝓡 .run) κ q s n W k there (one κ) 𝓣
       (cited 𝓤 H (LooksUp 𝓤 H A (𝓜 .mem) (𝓡 .run)) 𝓜 𝓡 γ #lines·look-up look-up-def.routine calls
-      (look-up-thm.met 𝓤 H 𝓜 𝓖 𝓡)) fits is-slice (Left 𝓤 H A w32 (result k) c κ q s n g) (λ d e.
+      (look-up-thm.met 𝓤 H 𝓜 𝓖 𝓡)) fits is-slice (WalkPost 𝓤 H A w32 (result k) c κ q s n g) (λ d e.
       leaves 𝓤 H A W w32 (result k) c κ q s n g fits (valued k κ d) (word k κ d) (shown κ s n g d e)))

@@ -1,13 +1,13 @@
 -- What the walks by hand of this crate share: a slice beside a number, and a call's result.
 --     Bytes κ, val s     the type of a `&[u8]` at the lifetime κ, and the machine value of the slice s
---     Own κ s            what the slice owns
+--     OwnsBytes κ s            what the slice owns
 --     Alive κ q          the token of the lifetime κ, as a call is handed it and gives it back
 --     with-number        what a slice owns, and a number that its width holds: what the two own as parameters
 --     Answer, answers    what a call has given back: the token, a result, and what the callee says of it
 -- A function of a slice and a number has its signature by the number's width w and the slot R of its result:
 --     ended w R          the signature
---     passed, Entry      the machine values of the two, and what there is on entry
---     Ensured, Left      what a contract c ensures of a result, and what stands where the walk ends
+--     passed, AtEntry      the machine values of the two, and what there is on entry
+--     Ensured, WalkPost      what a contract c ensures of a result, and what stands where the walk ends
 --     hands              the two are handed to a callee that asks for nothing, and the slice is kept
 --     leaves             the walk ends, where what c ensures of the result is shown
 --     by-walk            the function meets c, from a walk at each slice and number
@@ -47,8 +47,8 @@ Bytes κ = ShrSlice (named 0) κ u8
 abbrev pub val : RefT (List ℕ) → Val
 val s = sliceVal (s .ptr) (length (s .now))
 
-abbrev pub Own : Lft → RefT (List ℕ) → Fml
-Own κ s = Bytes κ .own s (val s ∷ [])
+abbrev pub OwnsBytes : Lft → RefT (List ℕ) → Fml
+OwnsBytes κ s = Bytes κ .own s (val s ∷ [])
 
 abbrev pub Alive : {M : Type 1} {𝓤 : URA M} → Lft → Share → Item 𝓤
 Alive κ q = ‵ (flft κ q) ⊛ ‵ ftrue
@@ -70,7 +70,7 @@ module _
         → Step K W
         (‵ (owns (Bytes κ ∷ UInt w ∷ []) (s, (n, tt)) (val s ∷ [], (vint w n ∷ [], tt))) ∷ Γ)
         G
-        (‵ (Own κ s) ∷ Γ)
+        (‵ (OwnsBytes κ s) ∷ Γ)
         G
     with-number t w κ s n fits =
         step (λ k.
@@ -106,40 +106,40 @@ stayed w R = (stay-none-slice (0 ∷ []) tt (plain (λ _. u8)) yes, (stay-none (
 abbrev pub passed : (w : Width) (κ : Lft) (s : RefT (List ℕ)) (n : ℕ) → Valss (Bytes κ ∷ UInt w ∷ [])
 passed w κ s n = (val s ∷ [], (vint w n ∷ [], tt))
 
-abbrev pub Entry : {M : Type 1} {𝓤 : URA M} → Width → Lft → Share → RefT (List ℕ) → ℕ → List (Item 𝓤)
-Entry w κ q s n = Alive κ q ∷ ‵ (owns (Bytes κ ∷ UInt w ∷ []) (s, (n, tt)) (passed w κ s n)) ∷ []
+abbrev pub AtEntry : {M : Type 1} {𝓤 : URA M} → Width → Lft → Share → RefT (List ℕ) → ℕ → List (Item 𝓤)
+AtEntry w κ q s n = Alive κ q ∷ ‵ (owns (Bytes κ ∷ UInt w ∷ []) (s, (n, tt)) (passed w κ s n)) ∷ []
 
 module _ {M : Type 1} (𝓤 : URA M) (w : Width) (R : Slot 1) (c : Clauses 𝓤 (ended w R)) (κ : Lft) where
   abbrev pub Ensured : (s : RefT (List ℕ)) (n : ℕ) → c (κ, tt) (s, (n, tt)) .ghost → R .row (κ, tt) .Denot → SProp 𝓤
   Ensured s n g r = c (κ, tt) (s, (n, tt)) .ensures g r (atExit (ended w R) (κ, tt) (s, (n, tt)) (tt, (tt, tt)))
 
 module _ {M : Type 1} (𝓤 : URA M) (H : Heap 𝓤) (A : Atoms 𝓤) (w : Width) (R : Slot 1) (c : Clauses 𝓤 (ended w R)) where
-  abbrev pub Left : (κ : Lft) → Share → (s : RefT (List ℕ)) (n : ℕ) → c (κ, tt) (s, (n, tt)) .ghost → Val → SProp 𝓤
-  Left κ q s n g =
+  abbrev pub WalkPost : (κ : Lft) → Share → (s : RefT (List ℕ)) (n : ℕ) → c (κ, tt) (s, (n, tt)) .ghost → Val → SProp 𝓤
+  WalkPost κ q s n g =
       walkOf 𝓤 H A (ended w R) (stayed w R) c .post (((κ, tt), (q, tt), tt, (s, (n, tt)), passed w κ s n), g)
 
 module _ {M : Type 1} (𝓤 : URA M) (H : Heap 𝓤) (A : Atoms 𝓤) (W : Given 𝓤 H A) (w : Width) where
   module _ (κ : Lft) (q : Share) (s : RefT (List ℕ)) (n : ℕ) where
     -- what such a callee asks for
-    asked : ent 𝓤 (⋆ 𝓤 H A (Entry w κ q s n)) (sep 𝓤 (⋆ 𝓤 H A (Entry w κ q s n)) (emp 𝓤))
-    asked = qed W (Entry w κ q s n) ∵ join ! $ frame ! $ done !
+    asked : ent 𝓤 (⋆ 𝓤 H A (AtEntry w κ q s n)) (sep 𝓤 (⋆ 𝓤 H A (AtEntry w κ q s n)) (emp 𝓤))
+    asked = qed W (AtEntry w κ q s n) ∵ join ! $ frame ! $ done !
 
     pub hands : n < 2 ^ bits w
-        → ent 𝓤 (⋆ 𝓤 H A (Alive κ q ∷ ‵ (Own κ s) ∷ []))
-        (sep 𝓤 (sep 𝓤 (⋆ 𝓤 H A (Entry w κ q s n)) (emp 𝓤)) (sem 𝓤 H A (Own κ s)))
+        → ent 𝓤 (⋆ 𝓤 H A (Alive κ q ∷ ‵ (OwnsBytes κ s) ∷ []))
+        (sep 𝓤 (sep 𝓤 (⋆ 𝓤 H A (AtEntry w κ q s n)) (emp 𝓤)) (sem 𝓤 H A (OwnsBytes κ s)))
     hands fits =
-        qed W (Alive κ q ∷ ‵ (Own κ s) ∷ []) ∵ move ! (1 ∷ []) $
-        use1 W (‵ (Own κ s) ⊛ ‵ (Own κ s)) (shr-slice-copy 𝓤 H A W (named 0) κ u8 .twice s (val s ∷ [])) $ split ! $
+        qed W (Alive κ q ∷ ‵ (OwnsBytes κ s) ∷ []) ∵ move ! (1 ∷ []) $
+        use1 W (‵ (OwnsBytes κ s) ⊛ ‵ (OwnsBytes κ s)) (shr-slice-copy 𝓤 H A W (named 0) κ u8 .twice s (val s ∷ [])) $ split ! $
         with-number ! w κ s n fits $
-        move ! (2 ∷ 0 ∷ []) $ use2 W (raw (sep 𝓤 (⋆ 𝓤 H A (Entry w κ q s n)) (emp 𝓤))) asked $ frame ! $ done !
+        move ! (2 ∷ 0 ∷ []) $ use2 W (raw (sep 𝓤 (⋆ 𝓤 H A (AtEntry w κ q s n)) (emp 𝓤))) asked $ frame ! $ done !
 
   module _ (R : Slot 1) (c : Clauses 𝓤 (ended w R)) where
     module _ (κ : Lft) (q : Share) (s : RefT (List ℕ)) (n : ℕ) (g : c (κ, tt) (s, (n, tt)) .ghost) where
       pub leaves : n < 2 ^ bits w → (r : R .row (κ, tt) .Denot) (v : Val) → ent 𝓤 (emp 𝓤) (Ensured 𝓤 w R c κ s n g r)
-          → ent 𝓤 (⋆ 𝓤 H A (‵ (R .row (κ, tt) .own r (v ∷ [])) ∷ Alive κ q ∷ ‵ (Own κ s) ∷ []))
-          (Left 𝓤 H A w R c κ q s n g v)
+          → ent 𝓤 (⋆ 𝓤 H A (‵ (R .row (κ, tt) .own r (v ∷ [])) ∷ Alive κ q ∷ ‵ (OwnsBytes κ s) ∷ []))
+          (WalkPost 𝓤 H A w R c κ q s n g v)
       leaves fits r v shown =
-          qed W (‵ (R .row (κ, tt) .own r (v ∷ [])) ∷ Alive κ q ∷ ‵ (Own κ s) ∷ []) ∵
+          qed W (‵ (R .row (κ, tt) .own r (v ∷ [])) ∷ Alive κ q ∷ ‵ (OwnsBytes κ s) ∷ []) ∵
           suffices ! _
           (ends-at 𝓤 H A (ended w R) (stayed w R) c W (((κ, tt), (q, tt), tt, (s, (n, tt)), passed w κ s n), g) v r
           (tt, (tt, tt)) (tt, (tt, tt))) $
@@ -149,8 +149,8 @@ module _ {M : Type 1} (𝓤 : URA M) (H : Heap 𝓤) (A : Atoms 𝓤) (W : Given
     pub by-walk : (𝓣 : Tables 𝓤 H) (f : Fn)
         → ((κ : Lft) (q : Share) (s : RefT (List ℕ)) (n : ℕ) (g : c (κ, tt) (s, (n, tt)) .ghost) → n < 2 ^ bits w
         → Is (Bytes κ) s (val s ∷ [])
-        → ent 𝓤 (⋆ 𝓤 H A (Entry w κ q s n))
-        (WpFn 𝓤 H (𝓣 .C) (𝓣 .Λ) f (val s ∷ vint w n ∷ []) (Left 𝓤 H A w R c κ q s n g)))
+        → ent 𝓤 (⋆ 𝓤 H A (AtEntry w κ q s n))
+        (WpFn 𝓤 H (𝓣 .C) (𝓣 .Λ) f (val s ∷ vint w n ∷ []) (WalkPost 𝓤 H A w R c κ q s n g)))
         → Meets 𝓤 H A (ended w R .signature) (WpFn 𝓤 H (𝓣 .C) (𝓣 .Λ) f) (closing 𝓤 H A (ended w R) c)
     by-walk 𝓣 f walk =
         let body = WpFn 𝓤 H (𝓣 .C) (𝓣 .Λ) f in

@@ -10,10 +10,10 @@ use lib.ListN.{set, take, drop, length-append, length-set, take-append-drop}
 use lib.Seq.{paste, take-length, take-paste, drop-paste, length-paste, take-suc-set, drop-set-lt, drop-drop}
 use Rattle.terms.specs.Choice.{∣_∣}
 use Rattle.sheets.specs.Refusals.{over}
-use Rattle.result.specs.Put.{Room, Put}
+use Rattle.result.specs.Put.{PutFits, Put}
 
 -- A whole text pasted, and one byte stored.
-pub pasted : {w : List ℕ} {at : ℕ} {s : List ℕ} → Room w at s → Put w at s (paste w at s ∣ s ∣) (at + ∣ s ∣)
+pub pasted : {w : List ℕ} {at : ℕ} {s : List ℕ} → PutFits w at s → Put w at s (paste w at s ∣ s ∣) (at + ∣ s ∣)
 pasted {w} {at} {s} room = record {
   next-is = refl;
   front-is = take-paste w at s ∣ s ∣ (omega arith) (omega arith) ∙ ap (λ (t : List ℕ). take at w ++ t) (take-length s);
@@ -21,7 +21,7 @@ pasted {w} {at} {s} room = record {
   as-long = length-paste w at s ∣ s ∣ (room .fits) (omega arith);
 }
 
-pub stored : {w : List ℕ} {at b : ℕ} → Room w at (b ∷ []) → Put w at (b ∷ []) (set w at b) (at + 1)
+pub stored : {w : List ℕ} {at b : ℕ} → PutFits w at (b ∷ []) → Put w at (b ∷ []) (set w at b) (at + 1)
 stored {w} {at} {b} room =
     let within : at < ∣ w ∣ = omega arith in
     record {
@@ -52,14 +52,14 @@ both {w} {w′} {w″} {x} {y} {a} {b} {c} p q = record {
 pub put-as : {w x y w′ : List ℕ} {a b : ℕ} → x ≡ y → Put w a x w′ b → Put w a y w′ b
 put-as {w} {w′ = w′} {a} {b} same p = subst (λ (x : List ℕ). Put w a x w′ b) same p
 
-pub room-as : {w x y : List ℕ} {a : ℕ} → x ≡ y → Room w a x → Room w a y
-room-as {w} {a = a} same room = subst (λ (x : List ℕ). Room w a x) same room
+pub room-as : {w x y : List ℕ} {a : ℕ} → x ≡ y → PutFits w a x → PutFits w a y
+room-as {w} {a = a} same room = subst (λ (x : List ℕ). PutFits w a x) same room
 
 -- Room for both is room for the first, and after it for the second.
-pub room-first : {w : List ℕ} {a : ℕ} (x y : List ℕ) → Room w a (x ++ y) → Room w a x
+pub room-first : {w : List ℕ} {a : ℕ} (x y : List ℕ) → PutFits w a (x ++ y) → PutFits w a x
 room-first x y room = omega (arith, length-append x y)
 
-pub room-then : {w w′ x y : List ℕ} {a b : ℕ} → Put w a x w′ b → Room w a (x ++ y) → Room w′ b y
+pub room-then : {w w′ x y : List ℕ} {a b : ℕ} → Put w a x w′ b → PutFits w a (x ++ y) → PutFits w′ b y
 room-then {x = x} {y} p room = omega (arith, length-append x y)
 
 -- What is put from the front on stands over the buffer.

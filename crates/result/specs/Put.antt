@@ -6,7 +6,7 @@ use lib.ListN.{take, drop}
 use Rattle.terms.specs.Choice.{∣_∣}
 
 -- What is to be put fits into w from the place on.
-pub record Room (w : List ℕ) (at : ℕ) (put : List ℕ) : Type 0 where
+pub record PutFits (w : List ℕ) (at : ℕ) (put : List ℕ) : Type 0 where
   pub fits : at + ∣ put ∣ ≤ ∣ w ∣
 
 pub record Put (w : List ℕ) (at : ℕ) (put : List ℕ) (w′ : List ℕ) (next : ℕ) : Type 0 where

@@ -5,7 +5,7 @@ ghost use mathlib.Core.List.{[], _∷_, _++_};
 ghost use Rattle.terms.specs.Policies.{policyName};
 ghost use Rattle.text.specs.Text.{bytes};
 ghost use Rattle.sheets.specs.Result.{lastDigit, decimal, milliseconds, lineOf, resultSheet};
-ghost use Rattle.result.specs.Put.{Room, Put};
+ghost use Rattle.result.specs.Put.{PutFits, Put};
 ghost use Rattle.result.specs.Parts.{tallyLines};
 ghost use Rattle.result.specs.Ledger.{requestLine};
 ghost use Rattle.result.specs.Promises.{defined, WroteSheet, WroteRefusal, WroteRequest};
@@ -36,7 +36,7 @@ pub struct Written {
 
 // Puts a text at a place, and answers the place behind it.
 fn put(out: &mut [u8], at: usize, text: &[u8]) -> usize
-    requires { ⌜ Room (now out) at (now text) ⌝ }
+    requires { ⌜ PutFits (now out) at (now text) ⌝ }
     ensures { λ r. ⌜ Put (now (out .entry)) at (now (text .entry)) (now (out .exit)) r ⌝ }
 {
     let mut i = 0;
@@ -49,7 +49,7 @@ fn put(out: &mut [u8], at: usize, text: &[u8]) -> usize
 
 // Puts one byte.
 fn put_byte(out: &mut [u8], at: usize, byte: u8) -> usize
-    requires { ⌜ Room (now out) at (byte ∷ []) ⌝ }
+    requires { ⌜ PutFits (now out) at (byte ∷ []) ⌝ }
     ensures { λ r. ⌜ Put (now (out .entry)) at (byte ∷ []) (now (out .exit)) r ⌝ }
 {
     out[at] = byte;
@@ -64,7 +64,7 @@ fn last_digit(n: u64) -> u8
 
 // Puts a number in digits: those before the last first, then the last.
 fn put_number(out: &mut [u8], at: usize, n: u64) -> usize
-    requires { ⌜ Room (now out) at (decimal n) ⌝ }
+    requires { ⌜ PutFits (now out) at (decimal n) ⌝ }
     ensures { λ r. ⌜ Put (now (out .entry)) at (decimal n) (now (out .exit)) r ⌝ }
 {
     if n < 10 {
@@ -76,7 +76,7 @@ fn put_number(out: &mut [u8], at: usize, n: u64) -> usize
 
 // Puts a name and a number.
 fn put_named(out: &mut [u8], at: usize, name: &[u8], n: u32) -> usize
-    requires { ⌜ Room (now out) at (now name ++ decimal n) ⌝ }
+    requires { ⌜ PutFits (now out) at (now name ++ decimal n) ⌝ }
     ensures { λ r. ⌜ Put (now (out .entry)) at (now (name .entry) ++ decimal n) (now (out .exit)) r ⌝ }
 {
     let next = put(out, at, name);
@@ -85,7 +85,7 @@ fn put_named(out: &mut [u8], at: usize, name: &[u8], n: u32) -> usize
 
 // Puts a line: a key, a number, a line feed.
 fn put_line(out: &mut [u8], at: usize, key: &[u8], n: u32) -> usize
-    requires { ⌜ Room (now out) at (lineOf (now key) (decimal n)) ⌝ }
+    requires { ⌜ PutFits (now out) at (lineOf (now key) (decimal n)) ⌝ }
     ensures { λ r. ⌜ Put (now (out .entry)) at (lineOf (now (key .entry)) (decimal n)) (now (out .exit)) r ⌝ }
 {
     let next = put_named(out, at, key, n);
@@ -94,7 +94,7 @@ fn put_line(out: &mut [u8], at: usize, key: &[u8], n: u32) -> usize
 
 // Puts thousandths of a millisecond: the whole milliseconds, a comma, three digits.
 fn put_milliseconds(out: &mut [u8], at: usize, thousandths: u64) -> usize
-    requires { ⌜ Room (now out) at (milliseconds thousandths) ⌝ }
+    requires { ⌜ PutFits (now out) at (milliseconds thousandths) ⌝ }
     ensures { λ r. ⌜ Put (now (out .entry)) at (milliseconds thousandths) (now (out .exit)) r ⌝ }
 {
     let next = put_number(out, at, thousandths / 1000);
@@ -110,7 +110,7 @@ fn put_milliseconds(out: &mut [u8], at: usize, thousandths: u64) -> usize
 
 // Puts a policy's name; a number that is no policy's has none.
 fn put_name(out: &mut [u8], at: usize, policy: u32) -> usize
-    requires { ⌜ Room (now out) at (bytes (policyName policy)) ⌝ }
+    requires { ⌜ PutFits (now out) at (bytes (policyName policy)) ⌝ }
     ensures { λ r. ⌜ Put (now (out .entry)) at (bytes (policyName policy)) (now (out .exit)) r ⌝ }
 {
     if policy == policies::CAR {
@@ -123,7 +123,7 @@ fn put_name(out: &mut [u8], at: usize, policy: u32) -> usize
 }
 
 fn put_policy(out: &mut [u8], at: usize, policy: u32) -> usize
-    requires { ⌜ Room (now out) at (lineOf (bytes "policy=") (bytes (policyName policy))) ⌝ }
+    requires { ⌜ PutFits (now out) at (lineOf (bytes "policy=") (bytes (policyName policy))) ⌝ }
     ensures { λ r. ⌜ Put (now (out .entry)) at (lineOf (bytes "policy=") (bytes (policyName policy)))
         (now (out .exit)) r ⌝ }
 {
@@ -133,7 +133,7 @@ fn put_policy(out: &mut [u8], at: usize, policy: u32) -> usize
 }
 
 fn put_wait(out: &mut [u8], at: usize, wait: u64) -> usize
-    requires { ⌜ Room (now out) at (lineOf (bytes "wait=") (milliseconds wait)) ⌝ }
+    requires { ⌜ PutFits (now out) at (lineOf (bytes "wait=") (milliseconds wait)) ⌝ }
     ensures { λ r. ⌜ Put (now (out .entry)) at (lineOf (bytes "wait=") (milliseconds wait)) (now (out .exit)) r ⌝ }
 {
     let next = put(out, at, b"wait=");
@@ -143,7 +143,7 @@ fn put_wait(out: &mut [u8], at: usize, wait: u64) -> usize
 
 // Puts the five lines of the run's tally.
 fn put_tally(out: &mut [u8], at: usize, o: Outcome) -> usize
-    requires { ⌜ Room (now out) at (tallyLines (defined o)) ⌝ }
+    requires { ⌜ PutFits (now out) at (tallyLines (defined o)) ⌝ }
     ensures { λ r. ⌜ Put (now (out .entry)) at (tallyLines (defined o)) (now (out .exit)) r ⌝ }
 {
     let mut next = put_line(out, at, b"requests=", o.requests);
@@ -155,7 +155,7 @@ fn put_tally(out: &mut [u8], at: usize, o: Outcome) -> usize
 
 // Puts the whole sheet.
 fn put_sheet(out: &mut [u8], o: Outcome) -> usize
-    requires { ⌜ Room (now out) 0 (resultSheet (defined o)) ⌝ }
+    requires { ⌜ PutFits (now out) 0 (resultSheet (defined o)) ⌝ }
     ensures { λ r. ⌜ Put (now (out .entry)) 0 (resultSheet (defined o)) (now (out .exit)) r ⌝ }
 {
     let mut next = put_policy(out, 0, o.policy);
@@ -213,7 +213,7 @@ fn put_request(
     list: u32,
     moves: u32,
 ) -> usize
-    requires { ⌜ Room (now out) 0 (requestLine request page kind evicted list moves) ⌝ }
+    requires { ⌜ PutFits (now out) 0 (requestLine request page kind evicted list moves) ⌝ }
     ensures { λ r. ⌜ Put (now (out .entry)) 0 (requestLine request page kind evicted list moves) (now (out .exit)) r ⌝ }
 {
     let mut next = put_named(out, 0, b"request=", request);

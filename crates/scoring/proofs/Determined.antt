@@ -5,10 +5,10 @@ use mathlib.Core.List.{List}
 use Prim.Native.Nat.{ℕ}
 use Rattle.scoring.specs.declared.Scored.{Scored}
 use Rattle.scoring.specs.Refusals.{Scoring, onScore, onLedger}
-use Rattle.scoring.specs.Promises.{Answers, SheetScored, SheetLedgered}
+use Rattle.scoring.specs.Promises.{ScoredAs, SheetScored, SheetLedgered}
 
 answers-determined : (d : Scoring) {pages₁ dir₁ answers₁ out₁ pages₂ dir₂ answers₂ out₂ : List ℕ} {r s : Scored}
-    → Answers d r pages₁ dir₁ answers₁ out₁ → Answers d s pages₂ dir₂ answers₂ out₂
+    → ScoredAs d r pages₁ dir₁ answers₁ out₁ → ScoredAs d s pages₂ dir₂ answers₂ out₂
     → (r ≡ s) × (pages₁ ≡ pages₂) × (dir₁ ≡ dir₂) × (answers₁ ≡ answers₂) × (out₁ ≡ out₂)
 answers-determined d {r = r} {s} a b =
     let number : r .number ≡ s .number = a .number-is ∙ sym (b .number-is) in

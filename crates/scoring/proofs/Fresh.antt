@@ -54,7 +54,7 @@ module _ {policy c : ℕ} {w trace answers : List ℕ} (h : Fitting policy c w t
       let words = made .words-are ∙ fresh-accepted in
       let served = ap (λ v. onRun v trace answers) words ∙ run-accepted in
       record {
-        tally-is = run-through .tally-is ∙ ap (λ (x : Refusals.Replayed). x .tally) served;
-        words-are = run-through .words-are ∙ ap (λ (x : Refusals.Replayed). x .words) served;
-        answers-are = run-through .answers-are ∙ ap (λ (x : Refusals.Replayed). x .answers) served;
+        tally-is = run-through .tally-is ∙ ap (λ (x : Refusals.RunAnswered). x .tally) served;
+        words-are = run-through .words-are ∙ ap (λ (x : Refusals.RunAnswered). x .words) served;
+        answers-are = run-through .answers-are ∙ ap (λ (x : Refusals.RunAnswered). x .answers) served;
       }

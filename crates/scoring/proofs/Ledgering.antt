@@ -16,23 +16,23 @@ use Rattle.result.proofs.Putting.{both, put-over}
 use Rattle.scoring.specs.declared.Scored.{Scored}
 use Rattle.scoring.specs.Scored.{replayed, scored, ledgerLines, requestLines, ledgered}
 use Rattle.scoring.specs.Refusals.{answered}
-use Rattle.scoring.specs.Promises.{Answers}
-use Rattle.scoring.specs.Ready.{Over, Lent, Requests, AnsweredWith}
+use Rattle.scoring.specs.Promises.{ScoredAs}
+use Rattle.scoring.specs.Ready.{TextOver, Lent, Requests, AnsweredWith}
 use Rattle.scoring.proofs.Lines.{four-words}
 use Rattle.scoring.proofs.Writing.{over-fits, PutWithin, part-put}
 
 -- What the scoring leaves for the ledger: requests whose lines are those of the sheet's meaning; and its text.
-pub record Served (m : Meaning) (text out : List ℕ) (r : Scored) (pages′ answers′ out′ : List ℕ) : Type 0 where
+pub record LeftForLedger (m : Meaning) (text out : List ℕ) (r : Scored) (pages′ answers′ out′ : List ℕ) : Type 0 where
   pub lines-are : ledgerLines 1 (take (r .requests) pages′) (take (4 * r .requests) answers′) ≡ requestLines m
-  pub text-over : Over text out (r .count) out′
+  pub text-over : TextOver text out (r .count) out′
 
 -- The same answer with another text, over other bytes.
 abbrev pub counting : Scored → ℕ → Scored
 counting r count = record { number = r .number; line = r .line; count = count; requests = r .requests }
 
 module _ (text pages dir answers out : List ℕ) {r : Scored} {pages′ dir′ answers′ out′ : List ℕ} where
-  served : (m : Meaning) → Answers (answered m text pages dir answers out) r pages′ dir′ answers′ out′
-      → Served m text out r pages′ answers′ out′
+  served : (m : Meaning) → ScoredAs (answered m text pages dir answers out) r pages′ dir′ answers′ out′
+      → LeftForLedger m text out r pages′ answers′ out′
   unfolding requestLines ledgerLines
   served (bid b) a =
       let many = a .requests-are in
@@ -53,15 +53,15 @@ module _ (text pages dir answers out : List ℕ) {r : Scored} {pages′ dir′ a
   }
 
   with-text : (m : Meaning) (text₂ out₂ : List ℕ) {count : ℕ} {out₂′ : List ℕ}
-      → Answers (answered m text pages dir answers out) r pages′ dir′ answers′ out′ → Over text₂ out₂ count out₂′
-      → Answers (answered m text₂ pages dir answers out₂) (counting r count) pages′ dir′ answers′ out₂′
+      → ScoredAs (answered m text pages dir answers out) r pages′ dir′ answers′ out′ → TextOver text₂ out₂ count out₂′
+      → ScoredAs (answered m text₂ pages dir answers out₂) (counting r count) pages′ dir′ answers′ out₂′
   with-text (bid b) text₂ out₂ a over = search (over-fits over)
   with-text (refused number line) text₂ out₂ a over = search (over-fits over)
 
 module _ (s pages dir answers out : List ℕ) (lent : Lent (256 * 1001) pages dir answers out) {r : Scored} {pages′ dir′ answers′ part : List ℕ}
     (h : AnsweredWith (scored s) s pages dir answers (take 256 out) r pages′ dir′ answers′ part)
     (same : ∣ part ∣ ≡ ∣ take 256 out ∣) where
-  sheet-served : Served (meaning s) (scored s) (take 256 out) r pages′ answers′ part
+  sheet-served : LeftForLedger (meaning s) (scored s) (take 256 out) r pages′ answers′ part
   sheet-served = served (scored s) pages dir answers (take 256 out) (meaning s) (h .answer-is)
 
   sheet-put : PutWithin out 0 (scored s) 256 (part ++ drop 256 out) (0 + r .count)

@@ -10,7 +10,7 @@ use borrow.Author.Tests.{leb-true, not-true, not-false}
 use Rattle.terms.specs.Choice.{∣_∣}
 use Rattle.scoring.specs.declared.Scored.{Scored}
 use Rattle.scoring.specs.Refusals.{enough, onSheet}
-use Rattle.scoring.specs.Promises.{Answers}
+use Rattle.scoring.specs.Promises.{ScoredAs}
 use Rattle.scoring.specs.Ready.{refusedScored, Lent, AnsweredWith}
 
 both : (a b : Bool) → a && b ≡ true → (a ≡ true) × (b ≡ true)
@@ -33,12 +33,12 @@ module _ (least : ℕ) (pages dir answers out : List ℕ) (told : Bool) (is : to
 
   module _ (text sheet : List ℕ) where
     pub short-answers : {r : Scored} → not told ≡ true → r ≡ refusedScored 6 0 0
-        → Answers (onSheet text least sheet pages dir answers out) r pages dir answers out
+        → ScoredAs (onSheet text least sheet pages dir answers out) r pages dir answers out
     unfolding onSheet
     short-answers h e = rw (sym is ∙ not-true told h, e) (search needs)
 
     pub sheet-answers : {r : Scored} {pages′ dir′ answers′ out′ : List ℕ} → not told ≡ false
         → AnsweredWith text sheet pages dir answers out r pages′ dir′ answers′ out′
-        → Answers (onSheet text least sheet pages dir answers out) r pages′ dir′ answers′ out′
+        → ScoredAs (onSheet text least sheet pages dir answers out) r pages′ dir′ answers′ out′
     unfolding onSheet
     sheet-answers h a = rw (sym is ∙ not-false told h) (a .answer-is)

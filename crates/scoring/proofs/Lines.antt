@@ -31,7 +31,7 @@ four-words t (x ∷ trace) d =
     simp length-append (omega (arith, rest))
 
 -- The number of request i, counted from 0, and the places of its answer's words.
-pub record Places (i number kind evicted list moves : ℕ) : Type 0 where
+pub record AnswerPlaces (i number kind evicted list moves : ℕ) : Type 0 where
   pub number-is : number ≡ i + 1
   pub kind-at : kind ≡ 4 * i
   pub evicted-at : evicted ≡ 4 * i + 1
@@ -44,7 +44,7 @@ module _ {i at : ℕ} {pages answers out : List ℕ} (h : Request i at pages ans
   written number kind evicted list moves =
       requestLine number (getD pages i 0) (getD answers kind 0) (getD answers evicted 0) (getD answers list 0) (getD answers moves 0)
 
-  its-line : {number kind evicted list moves : ℕ} → Places i number kind evicted list moves
+  its-line : {number kind evicted list moves : ℕ} → AnswerPlaces i number kind evicted list moves
       → written number kind evicted list moves ≡ ledgerLine (i + 1) (getD pages i 0) (drop (4 * i) answers)
   its-line p = simp (p .number-is, p .kind-at, p .evicted-at, p .list-at, p .moves-at, getD-drop, add-zero)
 
@@ -54,7 +54,7 @@ module _ {i at : ℕ} {pages answers out : List ℕ} (h : Request i at pages ans
 
   pub line-put : {number kind evicted list moves : ℕ} {r : Written} {part : List ℕ}
       → Wrote (onWriteText (written number kind evicted list moves) (take lent (drop at out))) r part
-      → Places i number kind evicted list moves → ∣ part ∣ ≡ ∣ take lent (drop at out) ∣
+      → AnswerPlaces i number kind evicted list moves → ∣ part ∣ ≡ ∣ take lent (drop at out) ∣
       → LinePut i at pages answers out (at + r .count) (take at out ++ (part ++ drop lent (drop at out)))
   line-put {number} {kind} {evicted} {list} {moves} {part = part} wrote places same =
       let line = written number kind evicted list moves in
@@ -64,7 +64,7 @@ module _ {i at : ℕ} {pages answers out : List ℕ} (h : Request i at pages ans
       record { line-put = put-as (its-line places) (put .is-put); not-far = omega (arith, put .not-far) }
 
 -- After i lines the bytes are `w`, up to a place: what is left to put from here is the whole from the start.
-pub record Midway (out : List ℕ) (at : ℕ) (pages answers : List ℕ) (i : ℕ) (w : List ℕ) (place : ℕ) : Type 0 where
+pub record LedgerMidway (out : List ℕ) (at : ℕ) (pages answers : List ℕ) (i : ℕ) (w : List ℕ) (place : ℕ) : Type 0 where
   pub inside : i ≤ ∣ pages ∣
   pub not-far : place ≤ 256 * (i + 1)
   pub as-long : ∣ w ∣ ≡ ∣ out ∣
@@ -72,7 +72,7 @@ pub record Midway (out : List ℕ) (at : ℕ) (pages answers : List ℕ) (i : �
       → Put out at (ledgerLines 1 pages answers) w′ next
 
 module _ (out : List ℕ) (at : ℕ) (pages answers : List ℕ) where
-  pub begins : at ≤ 256 → Midway out at pages answers 0 out at
+  pub begins : at ≤ 256 → LedgerMidway out at pages answers 0 out at
   begins near = record {
     inside = omega arith;
     not-far = omega arith;
@@ -80,7 +80,7 @@ module _ (out : List ℕ) (at : ℕ) (pages answers : List ℕ) where
     comes-to = λ w′ next h. h;
   }
 
-  module _ {i : ℕ} {w : List ℕ} {place : ℕ} (m : Midway out at pages answers i w place) where
+  module _ {i : ℕ} {w : List ℕ} {place : ℕ} (m : LedgerMidway out at pages answers i w place) where
     next-line : i < ∣ pages ∣ → ledgerLines (i + 1) (drop i pages) (drop (4 * i) answers)
         ≡ ledgerLine (i + 1) (getD pages i 0) (drop (4 * i) answers)
         ++ ledgerLines (i + 1 + 1) (drop (i + 1) pages) (drop (4 * (i + 1)) answers)
@@ -90,7 +90,7 @@ module _ (out : List ℕ) (at : ℕ) (pages answers : List ℕ) where
         rw (drop-cons pages i 0 more, four, drop-drop, add-one i)
 
     pub goes-on : i < ∣ pages ∣ → {w′ : List ℕ} {next : ℕ} → LinePut i place pages answers w next w′
-        → Midway out at pages answers (i + 1) w′ next
+        → LedgerMidway out at pages answers (i + 1) w′ next
     goes-on more h = record {
       inside = omega arith;
       not-far = omega (arith, m .not-far, h .not-far);

@@ -11,7 +11,7 @@ use Rattle.sheets.specs.Bid.{Meaning, bid, refused, meaning}
 use Rattle.sheets.specs.Refusals.{answer, over}
 use Rattle.sheets.proofs.Refused.{refusal-has-number}
 use Rattle.bid.specs.declared.Bid.{Bid}
-use Rattle.bid.specs.Promises.{Answers, BidRead}
+use Rattle.bid.specs.Promises.{ReadAs, BidRead}
 use Rattle.bid.proofs.Reader.{read-by-meaning}
 use Rattle.scoring.specs.Ready.{meant}
 
@@ -27,10 +27,10 @@ pub record Accepted (m : Meaning) (w : List ℕ) (r : Bid) (w′ : List ℕ) : T
   pub words-are : w′ ≡ over (take (r .count) w′) w
 
 module _ (s w : List ℕ) (room : 1000 ≤ ∣ w ∣) (r : Bid) (w′ : List ℕ) (h : BidRead s w r w′) where
-  by-meaning : Answers (answer (meaning s) w) r w′
-  by-meaning = subst (λ a. Answers a r w′) (read-by-meaning s w room) h
+  by-meaning : ReadAs (answer (meaning s) w) r w′
+  by-meaning = subst (λ a. ReadAs a r w′) (read-by-meaning s w room) h
 
-  refused-as : (m : Meaning) → Answers (answer m w) r w′ → (r .number ≡ 0 → ⊥) → Refused m w r w′
+  refused-as : (m : Meaning) → ReadAs (answer m w) r w′ → (r .number ≡ 0 → ⊥) → Refused m w r w′
   refused-as (bid b) a some = absurd (some (a .number-is))
   refused-as (refused number line) a some = record {
     means-refusal = rw (a .number-is, a .line-is) refl;
@@ -40,7 +40,7 @@ module _ (s w : List ℕ) (room : 1000 ≤ ∣ w ∣) (r : Bid) (w′ : List ℕ
   pub sheet-refused : (r .number ≡ 0 → ⊥) → Refused (meaning s) w r w′
   sheet-refused some = refused-as (meaning s) by-meaning some
 
-  accepted-as : (m : Meaning) → Answers (answer m w) r w′ → ((number line : ℕ) → m ≡ refused number line → 1 ≤ number)
+  accepted-as : (m : Meaning) → ReadAs (answer m w) r w′ → ((number line : ℕ) → m ≡ refused number line → 1 ≤ number)
       → r .number ≡ 0 → Accepted m w r w′
   accepted-as (bid b) a numbered none =
       let pages : take (r .count) w′ ≡ b .pages

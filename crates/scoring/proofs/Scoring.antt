@@ -21,7 +21,7 @@ use Rattle.result.specs.declared.Written.{Written}
 use Rattle.result.specs.Promises.{WroteSheet, WroteRefusal}
 use Rattle.scoring.specs.declared.Scored.{Scored}
 use Rattle.scoring.specs.Scored.{outcome, replayed, printed, scored}
-use Rattle.scoring.specs.Ready.{refusedScored, Fitting, RanFresh, Lent, Good, meant, Over, BidScored, AnsweredWith}
+use Rattle.scoring.specs.Ready.{refusedScored, Fitting, RanFresh, Lent, GoodBid, meant, TextOver, BidScored, AnsweredWith}
 use Rattle.scoring.proofs.Reading.{Accepted, sheet-refused, sheet-accepted}
 use Rattle.scoring.proofs.Writing.{sheet-over, text-over, over-fits}
 
@@ -38,7 +38,7 @@ handed b t wait = record {
   wait = wait;
 }
 
-module _ {b : Bid} {pages dir answers out : List ℕ} (h : Good b pages dir answers out) where
+module _ {b : Bid} {pages dir answers out : List ℕ} (h : GoodBid b pages dir answers out) where
   dir-part : ∣ take (8 + 4 * b .c) dir ∣ ≡ 8 + 4 * b .c
   dir-part = length-take-le (8 + 4 * b .c) dir (omega (arith, h .size-known .1, h .lent .dir-fits))
 
@@ -75,7 +75,7 @@ module _ {b : Bid} {pages dir answers out : List ℕ} (h : Good b pages dir answ
         answers-are = ran .answers-are;
         prints =
             subst
-            (λ (x : Run.Tally). Over (resultSheet (outcome (meant b pages) x)) out (r .count) out′)
+            (λ (x : Run.Tally). TextOver (resultSheet (outcome (meant b pages) x)) out (r .count) out′)
             (ran .tally-is)
             (rw is at front);
       }
@@ -104,7 +104,7 @@ module _ (s pages dir answers out : List ℕ) (lent : Lent 256 pages dir answers
     few : b .count ≤ 1000
     few = omega (arith, accepted .as-many, in-range .pages-at-most)
 
-    pub good-bid : ∣ pages′ ∣ ≡ ∣ pages ∣ → Good b pages′ dir answers out
+    pub good-bid : ∣ pages′ ∣ ≡ ∣ pages ∣ → GoodBid b pages′ dir answers out
     good-bid same = record {
       lent = record {
         pages-fit = omega (arith, lent .pages-fit);

@@ -18,21 +18,21 @@ use Rattle.result.specs.declared.Written.{Written}
 use Rattle.result.specs.Put.{Put}
 use Rattle.result.specs.Promises.{defined, Wrote, onWriteText, WroteSheet}
 use Rattle.result.proofs.Putting.{pasted}
-use Rattle.scoring.specs.Ready.{Over}
+use Rattle.scoring.specs.Ready.{TextOver}
 
 -- A text over lent bytes is no longer than they are.
-pub over-fits : {text out : List ℕ} {count : ℕ} {out′ : List ℕ} → Over text out count out′ → count ≤ ∣ out′ ∣
+pub over-fits : {text out : List ℕ} {count : ℕ} {out′ : List ℕ} → TextOver text out count out′ → count ≤ ∣ out′ ∣
 over-fits {text} {out} h = omega (arith, h .count-is, ap ∣_∣ (h .out-is), length-append text (drop ∣ text ∣ out))
 
 pub sheet-over : (o : Outcome) (out : List ℕ) {out′ : List ℕ} {r : Written} → WroteSheet o out r out′
-    → knownPolicy (o .policy) ≡ true → 256 ≤ ∣ out ∣ → Over (resultSheet (defined o)) out (r .count) out′
+    → knownPolicy (o .policy) ≡ true → 256 ≤ ∣ out ∣ → TextOver (resultSheet (defined o)) out (r .count) out′
 unfolding onWrite
 sheet-over o out h known room =
     let test = le-ltb ∣ out ∣ 256 room in
     record { count-is = rw (known, test) at (h .count-is); out-is = rw (known, test) at (h .bytes-are) }
 
 pub text-over : (text out : List ℕ) {out′ : List ℕ} {r : Written} → Wrote (onWriteText text out) r out′
-    → 256 ≤ ∣ out ∣ → Over text out (r .count) out′
+    → 256 ≤ ∣ out ∣ → TextOver text out (r .count) out′
 unfolding onWriteText
 text-over text out h room =
     let test = le-ltb ∣ out ∣ 256 room in
@@ -53,7 +53,7 @@ pub record PutWithin (w : List ℕ) (at : ℕ) (text : List ℕ) (k : ℕ) (w′
   pub is-put : Put w at text w′ next
   pub not-far : next ≤ at + k
 
-module _ (w text part : List ℕ) (at k : ℕ) (room : at + k ≤ ∣ w ∣) {count : ℕ} (h : Over text (take k (drop at w)) count part)
+module _ (w text part : List ℕ) (at k : ℕ) (room : at + k ≤ ∣ w ∣) {count : ℕ} (h : TextOver text (take k (drop at w)) count part)
     (same : ∣ part ∣ ≡ ∣ take k (drop at w) ∣) where
   fits : ∣ text ∣ ≤ k
   fits =

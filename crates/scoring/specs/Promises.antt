@@ -8,7 +8,7 @@ use Rattle.scoring.specs.declared.Scored.{Scored}
 use Rattle.scoring.specs.Refusals.{Scoring, onScore, onLedger}
 
 -- The answer and the lent memory are those that a definition gives.
-pub record Answers (defined : Scoring) (r : Scored) (pages′ dir′ answers′ out′ : List ℕ) : Type 0 where
+pub record ScoredAs (defined : Scoring) (r : Scored) (pages′ dir′ answers′ out′ : List ℕ) : Type 0 where
   pub number-is : r .number ≡ defined .number
   pub line-is : r .line ≡ defined .line
   pub count-is : r .count ≡ defined .count
@@ -23,9 +23,9 @@ pub record Answers (defined : Scoring) (r : Scored) (pages′ dir′ answers′ 
 -- score(sheet, pages, dir, answers, out) -> Scored
 abbrev pub SheetScored : (sheet pages dir answers out : List ℕ) → Scored
     → (pages′ dir′ answers′ out′ : List ℕ) → Type 0
-SheetScored sheet pages dir answers out = Answers (onScore sheet pages dir answers out)
+SheetScored sheet pages dir answers out = ScoredAs (onScore sheet pages dir answers out)
 
 -- ledger(sheet, pages, dir, answers, out) -> Scored
 abbrev pub SheetLedgered : (sheet pages dir answers out : List ℕ) → Scored
     → (pages′ dir′ answers′ out′ : List ℕ) → Type 0
-SheetLedgered sheet pages dir answers out = Answers (onLedger sheet pages dir answers out)
+SheetLedgered sheet pages dir answers out = ScoredAs (onLedger sheet pages dir answers out)

@@ -21,7 +21,7 @@ use Rattle.result.specs.Put.{Put}
 use Rattle.scoring.specs.declared.Scored.{Scored}
 use Rattle.scoring.specs.Scored.{replayed, printed, ledgerLine}
 use Rattle.scoring.specs.Refusals.{answered}
-use Rattle.scoring.specs.Promises.{Answers}
+use Rattle.scoring.specs.Promises.{ScoredAs}
 
 -- A refused call's answer: its number, its line, and how many bytes say so.
 abbrev pub refusedScored : ℕ → ℕ → ℕ → Scored
@@ -48,7 +48,7 @@ pub record Lent (least : ℕ) (pages dir answers out : List ℕ) : Type 0 where
   pub out-fits : least ≤ ∣ out ∣
 
 -- An accepted bid, with its pages in front of the page buffer.
-pub record Good (b : Bid) (pages dir answers out : List ℕ) : Type 0 where
+pub record GoodBid (b : Bid) (pages dir answers out : List ℕ) : Type 0 where
   pub lent : Lent 256 pages dir answers out
   pub policy-known : knownPolicy (b .policy) ≡ true
   pub size-known : (1 ≤ b .c) × (b .c ≤ 1024)
@@ -59,7 +59,7 @@ abbrev pub meant : Bid → List ℕ → Sheet.Bid
 meant b pages = record { policy = b .policy; c = b .c; cost = b .cost; pages = take (b .count) pages }
 
 -- A text over lent bytes, and its count.
-pub record Over (text out : List ℕ) (count : ℕ) (out′ : List ℕ) : Type 0 where
+pub record TextOver (text out : List ℕ) (count : ℕ) (out′ : List ℕ) : Type 0 where
   pub count-is : count ≡ ∣ text ∣
   pub out-is : out′ ≡ over text out
 
@@ -70,12 +70,12 @@ pub record BidScored (b : Bid) (pages dir answers out : List ℕ) (r : Scored)
   pub requests-are : r .requests ≡ b .count
   pub dir-is : dir′ ≡ over (encode (replayed (meant b pages) .dir)) dir
   pub answers-are : answers′ ≡ over (replayed (meant b pages) .answers) answers
-  pub prints : Over (printed (bid (meant b pages))) out (r .count) out′
+  pub prints : TextOver (printed (bid (meant b pages))) out (r .count) out′
 
 -- The answer where the lent memory is enough, over what is printed; and that the requests are few.
 pub record AnsweredWith (text sheet pages dir answers out : List ℕ) (r : Scored)
     (pages′ dir′ answers′ out′ : List ℕ) : Type 0 where
-  pub answer-is : Answers (answered (meaning sheet) text pages dir answers out) r pages′ dir′ answers′ out′
+  pub answer-is : ScoredAs (answered (meaning sheet) text pages dir answers out) r pages′ dir′ answers′ out′
   pub few : r .requests ≤ 1000
 
 -- Request i, counted from 0, with its page and its answer there, and room for its line from a place on.

@@ -5,7 +5,7 @@ ghost use Prim.Native.Nat.{_*_};
 ghost use Rattle.result.specs.Put.{Put};
 ghost use Rattle.scoring.specs.Scored.{scored, ledgered, ledgerLines};
 ghost use Rattle.scoring.specs.Refusals.{enough};
-ghost use Rattle.scoring.specs.Ready.{Fitting, RanFresh, Good, BidScored, Lent, AnsweredWith};
+ghost use Rattle.scoring.specs.Ready.{Fitting, RanFresh, GoodBid, BidScored, Lent, AnsweredWith};
 ghost use Rattle.scoring.specs.Ready.{refusedScored, Request, LinePut, Requests};
 ghost use Rattle.scoring.specs.Promises.{SheetScored, SheetLedgered};
 use terms::limits;
@@ -70,7 +70,7 @@ fn score_bid(
     answers: &mut [u32],
     out: &mut [u8],
 ) -> Scored
-    requires { ⌜ Good bid (now pages) (now dir) (now answers) (now out) ⌝ }
+    requires { ⌜ GoodBid bid (now pages) (now dir) (now answers) (now out) ⌝ }
     ensures { λ r. ⌜ BidScored bid (now (pages .entry)) (now (dir .entry)) (now (answers .entry)) (now (out .entry))
         r (now (dir .exit)) (now (answers .exit)) (now (out .exit)) ⌝ }
 {

@@ -116,18 +116,18 @@ page-allowed n ls = of-under (Allowed n) (bytes "page=") _ (λ s.
     both h (means page) small = (h, small)
     both h (wrong number) small = tt
 
-abbrev Room : ℕ → List ℕ → Type 0
-Room n pages = (n + ∣ pages ∣ ≤ 1000) × (allAtMost 4294967295 pages ≡ true)
+abbrev PagesFit : ℕ → List ℕ → Type 0
+PagesFit n pages = (n + ∣ pages ∣ ≤ 1000) × (allAtMost 4294967295 pages ≡ true)
 
 of-onto : (n : ℕ) (r : Reading) (after : Pages) → OfReading (Allowed n) r
-    → (n < 1000 → OfPages (Room (suc n)) after) → OfPages (Room n) (onto n r after)
+    → (n < 1000 → OfPages (PagesFit (suc n)) after) → OfPages (PagesFit n) (onto n r after)
 of-onto n (good page rest) (listed pages) h room =
     let i = room (h .0) in (omega arith, simp reads (h .1, i .1))
 of-onto n (good page rest) (refusedAt number at) h room = tt
 of-onto n (bad number) (listed pages) h room = tt
 of-onto n (bad number) (refusedAt later at) h room = tt
 
-pages-at-most : (n : ℕ) (ls : Lines) → n ≤ 1000 → OfPages (Room n) (pagesFrom n ls)
+pages-at-most : (n : ℕ) (ls : Lines) → n ≤ 1000 → OfPages (PagesFit n) (pagesFrom n ls)
 pages-at-most n end h = (omega arith, refl)
 pages-at-most n unclosed h =
     of-onto n (pageLine n unclosed) (listed []) (page-allowed n unclosed) (λ below. (omega arith, refl))
@@ -138,7 +138,7 @@ pages-at-most n (line l rest) h =
 -- THE SHEET
 
 module _ (policy c cost : ℕ) (p : Known policy) (q : Size c) (r : Cost cost) where
-  of-pages : (ps : Pages) → OfPages (Room 0) ps → OfMeaning InRange (withPages policy c cost ps)
+  of-pages : (ps : Pages) → OfPages (PagesFit 0) ps → OfMeaning InRange (withPages policy c cost ps)
   of-pages (listed pages) h = record {
     policy-known = p;
     size-known = q;

@@ -5,7 +5,7 @@ use Rattle.bytes.specs.Bytes.{indexOf}
 use Rattle.sheets.specs.Number.{whole, missCost, digitsForm}
 use Rattle.sheets.specs.Bid.{policyLine, sizeLine, costLine, pageLine, inOrder, meaning}
 use Rattle.sheets.specs.Result.{decimal, milliseconds, resultSheet, refusedSheet}
-use Rattle.sheets.specs.Examples.{MissCosts, WholeNumbers, Sheets, LookedUp, Results}
+use Rattle.sheets.specs.Examples.{MissCosts, WholeNumbers, Sheets, LookUps, Results}
 
 pub miss-costs : MissCosts
 unfolding digitsForm missCost indexOf
@@ -53,7 +53,7 @@ sheets = record {
   an-empty-line = refl;
 }
 
-pub looked-up : LookedUp
+pub looked-up : LookUps
 unfolding indexOf
 looked-up = record {
   third-value = refl;

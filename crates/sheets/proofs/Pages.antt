@@ -36,18 +36,18 @@ isEnd end = true
 isEnd unclosed = false
 isEnd (line l rest) = false
 
-pub record Good (v : Value) (after : Lines) (n : ℕ) (rest : Lines) : Type 0 where
+pub record GoodLine (v : Value) (after : Lines) (n : ℕ) (rest : Lines) : Type 0 where
   pub meant : v ≡ means n
   pub same-rest : after ≡ rest
 
 -- A line under its key is good only by its value.
 pub good-value : (t : Bool) (v : Value) (after : Lines) (n : ℕ) (rest : Lines)
-    → (if t then before v after else bad noSuchLine) ≡ good n rest → Good v after n rest
+    → (if t then before v after else bad noSuchLine) ≡ good n rest → GoodLine v after n rest
 good-value true (means x) after n rest e = record { meant = ap means (ap valueRead e); same-rest = ap restOf e }
 good-value true (wrong k) after n rest e = absurd (false≢true (ap isGood e))
 good-value false v after n rest e = absurd (false≢true (ap isGood e))
 
-pub record Next (n : ℕ) (ls : Lines) (page : ℕ) (rest : Lines) : Type 0 where
+pub record NextPage (n : ℕ) (ls : Lines) (page : ℕ) (rest : Lines) : Type 0 where
   pub one-of-thousand : n < 1000
   pub goes-on : pagesFrom n ls ≡ onto n (good page rest) (pagesFrom (suc n) rest)
 
@@ -60,7 +60,7 @@ module _ (n page : ℕ) (rest : Lines) where
       go true h e = ltb-true n 1000 h
       go false h e = absurd (false≢true (ap isMeant e))
 
-  pub next-page : (ls : Lines) → pageLine n ls ≡ good page rest → Next n ls page rest
+  pub next-page : (ls : Lines) → pageLine n ls ≡ good page rest → NextPage n ls page rest
   unfolding pageLine
   next-page end e = absurd (false≢true (ap isGood e))
   next-page unclosed e = absurd (false≢true (ap isGood e))

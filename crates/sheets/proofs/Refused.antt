@@ -83,20 +83,20 @@ of-pages n (line l rest) =
 
 -- THE SHEET
 
-abbrev Numbered : Meaning → Type 0
-Numbered (bid b) = Unit
-Numbered (refused number at) = 1 ≤ number
+abbrev MeaningNumbered : Meaning → Type 0
+MeaningNumbered (bid b) = Unit
+MeaningNumbered (refused number at) = 1 ≤ number
 
-of-all : (policy c cost : ℕ) (ps : Pages) → PagesNumbered ps → Numbered (withPages policy c cost ps)
+of-all : (policy c cost : ℕ) (ps : Pages) → PagesNumbered ps → MeaningNumbered (withPages policy c cost ps)
 of-all policy c cost (listed pages) h = tt
 of-all policy c cost (refusedAt number at) h = h
 
 of-order : (n : ℕ) (r : Reading) (follows : ℕ → Lines → Meaning) → ReadingNumbered r
-    → ((v : ℕ) (ls : Lines) → Numbered (follows v ls)) → Numbered (afterLine n r follows)
+    → ((v : ℕ) (ls : Lines) → MeaningNumbered (follows v ls)) → MeaningNumbered (afterLine n r follows)
 of-order n (good v rest) follows h i = i v rest
 of-order n (bad number) follows h i = h
 
-in-order-numbered : (ls : Lines) → Numbered (inOrder ls)
+in-order-numbered : (ls : Lines) → MeaningNumbered (inOrder ls)
 unfolding inOrder policyLine sizeLine costLine
 in-order-numbered ls =
     of-order 1 (policyLine ls) _ (of-line (bytes "policy=") _ (λ s. of-policy (policyValue s)) ls) (λ policy ls₂.
@@ -107,4 +107,4 @@ in-order-numbered ls =
 pub refusal-has-number : RefusalsHaveNumbers
 unfolding meaning
 refusal-has-number s number at is =
-    subst Numbered is (either Numbered (ltb 16000 ∣ s ∣) (omega arith) (in-order-numbered (lines s)))
+    subst MeaningNumbered is (either MeaningNumbered (ltb 16000 ∣ s ∣) (omega arith) (in-order-numbered (lines s)))

@@ -61,7 +61,7 @@ pub record Sheets : Type 0 where
   pub first-wrong-decides : sheet "policy=car\npages=2\nmisscost=1,250\npage=1\npage=02\nPage=3\n" ≡ refused 9 5
   pub an-empty-line : sheet "policy=car\npages=2\nmisscost=1,250\n\n" ≡ refused 8 4
 
-pub record LookedUp : Type 0 where
+pub record LookUps : Type 0 where
   pub third-value : valueOf 0 3 (lines (bytes worked)) ≡ between 28 33
   pub first-equals : valueOf 0 1 (lines (bytes "a=b=c\n")) ≡ between 2 5
   pub empty-value : valueOf 0 2 (lines (bytes "x\n=\n")) ≡ between 3 3

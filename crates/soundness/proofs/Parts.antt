@@ -14,7 +14,7 @@ use Rattle.entries.specs.Stretches.{nameOf, startOf}
 use Rattle.entries.specs.Leaves.{OfEntries}
 use Rattle.entries.proofs.Laid.{Header, header, length-of-list}
 use Rattle.entries.proofs.Reading as Reading
-use Rattle.soundness.specs.Orderly.{Held}
+use Rattle.soundness.specs.Orderly.{WordsHeld}
 
 -- In the words w the list l stands from word a on, and has n entries.
 pub record Stands (w : List ℕ) (a n : ℕ) (l : List Entry) : Type 0 where
@@ -26,7 +26,7 @@ pub told : {w : List ℕ} {a n : ℕ} {l : List Entry} {Of : List Entry → Type
     → OfEntries w a′ n′ Of → a ≡ a′ → n ≡ n′ → Of l
 told s a′ n′ tells at size = Reading.told (s .there) tells at (s .many ∙ size)
 
-module _ {w : List ℕ} (h : Held w) where
+module _ {w : List ℕ} (h : WordsHeld w) where
   abbrev d : Directory
   d = decode w
 

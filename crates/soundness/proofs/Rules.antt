@@ -11,7 +11,7 @@ use Rattle.terms.proofs.Tests.{reads}
 use Rattle.figures.specs.Sound.{flagWords, sound}
 use Rattle.laws.proofs.Encoding.{shaped}
 use Rattle.soundness.proofs.Tests.{agree}
-use Rattle.soundness.specs.Orderly.{Orderly, sizesFit, Held, entriesSound}
+use Rattle.soundness.specs.Orderly.{Orderly, sizesFit, WordsHeld, entriesSound}
 
 abbrev pub flagsKnown : List ℕ → Bool
 flagsKnown w = allAtMost mostFlags (flagWords (take (used w) (drop 8 w)))
@@ -35,7 +35,7 @@ module _ (w : List ℕ) (h : sound w ≡ true) where
 
 -- the first three make the words those of a directory,
 module _ {w : List ℕ} (o : Orderly w) (sizes : sizesFit w ≡ true) (flags : flagsKnown w ≡ true) (zeros : restZero w ≡ true) where
-  pub held : Held w
+  pub held : WordsHeld w
   held = let said = simp reads at sizes in record {
     orderly = o;
     is = shaped w (o .length-is) (said .1 .0) (said .1 .1 .0) flags zeros;

@@ -31,7 +31,7 @@ sizesFit w =
     ∷ [])
 
 -- The words are in order, their lists fit, and they are the words of the directory that they hold.
-pub record Held (w : List ℕ) : Type 0 where
+pub record WordsHeld (w : List ℕ) : Type 0 where
   pub orderly : Orderly w
   pub is : encode (decode w) ≡ w
   pub cache-fits : nT1 w + nT2 w ≤ size w

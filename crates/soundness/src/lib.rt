@@ -4,7 +4,7 @@ ghost use mathlib.Core.Path.{_≡_};
 ghost use Rattle.figures.specs.Car.{carSound};
 ghost use Rattle.figures.specs.Cart.{cartSound};
 ghost use Rattle.figures.specs.Sound.{sound};
-ghost use Rattle.soundness.specs.Orderly.{Orderly, sizesFit, Held, entriesSound};
+ghost use Rattle.soundness.specs.Orderly.{Orderly, sizesFit, WordsHeld, entriesSound};
 use entries::flags;
 use entries::header;
 use entries::lists;
@@ -36,7 +36,7 @@ fn sizes_fit(dir: &[u32]) -> bool
 
 // CAR's own rules.
 fn car_sound(dir: &[u32]) -> bool
-    requires { ⌜ Held (now dir) ⌝ }
+    requires { ⌜ WordsHeld (now dir) ⌝ }
     ensures { λ r. ⌜ r ≡ carSound (now (dir .entry)) ⌝ }
 {
     let n1 = lists::wide(dir[header::T1_LENGTH]);
@@ -53,7 +53,7 @@ fn car_sound(dir: &[u32]) -> bool
 
 // CART's own rules.
 fn cart_sound(dir: &[u32]) -> bool
-    requires { ⌜ Held (now dir) ⌝ }
+    requires { ⌜ WordsHeld (now dir) ⌝ }
     ensures { λ r. ⌜ r ≡ cartSound (now (dir .entry)) ⌝ }
 {
     let n1 = lists::wide(dir[header::T1_LENGTH]);
@@ -76,7 +76,7 @@ fn cart_sound(dir: &[u32]) -> bool
 
 // What the entries say, once flags are known to be flags.
 fn entries_sound(dir: &[u32]) -> bool
-    requires { ⌜ Held (now dir) ⌝ }
+    requires { ⌜ WordsHeld (now dir) ⌝ }
     ensures { λ r. ⌜ r ≡ entriesSound (now (dir .entry)) ⌝ }
 {
     let cached = lists::wide(dir[header::T1_LENGTH]) + lists::wide(dir[header::T2_LENGTH]);

@@ -9,7 +9,7 @@ use mir.Val.{SFits, ofZ, toZ}
 use mir.Facts.{toZ-ofZ}
 use Rattle.libc.specs.Io.{Moved}
 use Rattle.io.specs.Counts.{clamped}
-use Rattle.streams.specs.Reads.{put, Some, IsFailure, Tells}
+use Rattle.streams.specs.Reads.{put, Some, IsFailure, ReadTells}
 use Rattle.streams.specs.declared.Got.{Got}
 use Rattle.streams.specs.declared.Got.the-variants.{Bytes, End, Interrupted, Failed}
 
@@ -20,18 +20,18 @@ counted z most n fits is = is ∙ ap (λ (x : ℤ). clamped x most) (toZ-ofZ fit
 pub moved : (z : ℤ) (most left : ℕ) → SFits w64 z → most ≡ left → Moved most z → Moved left (toZ w64 (ofZ w64 z))
 moved z most left fits same h = subst (λ (x : ℤ). Moved left x) (sym (toZ-ofZ fits)) (subst (λ (n : ℕ). Moved n z) same h)
 
-pub tells-end : (z : ℤ) → SFits w64 z → ofZ w64 z ≡ 0 → Tells z End
+pub tells-end : (z : ℤ) → SFits w64 z → ofZ w64 z ≡ 0 → ReadTells z End
 tells-end (pos zero) fits is = refl
 tells-end (pos (suc n)) fits is = absurd (omega (arith, is))
 tells-end (negsuc n) fits is = absurd (omega (arith, is, fits .sfits))
 
-pub tells-bytes : (z : ℤ) (most n : ℕ) → Moved most z → n ≡ clamped z most → (n ≡ 0 → ⊥) → Tells z (Bytes n)
+pub tells-bytes : (z : ℤ) (most n : ℕ) → Moved most z → n ≡ clamped z most → (n ≡ 0 → ⊥) → ReadTells z (Bytes n)
 tells-bytes (pos zero) most n moved is some = absurd (some (omega (arith, is)))
 tells-bytes (pos (suc k)) most n moved is some = ap Bytes (omega (arith, is, moved))
 tells-bytes (negsuc k) most n moved is some = absurd (some is)
 
 pub tells-failure : (z : ℤ) (most n : ℕ) (r : Got) → IsFailure r → Moved most z → n ≡ clamped z most → n ≡ 0
-    → (ofZ w64 z ≡ 0 → ⊥) → Tells z r
+    → (ofZ w64 z ≡ 0 → ⊥) → ReadTells z r
 tells-failure (pos zero) most n r failure moved is none some = absurd (some refl)
 tells-failure (pos (suc k)) most n r failure moved is none some = absurd (omega (arith, is, moved, none))
 tells-failure (negsuc k) most n r failure moved is none some = failure
@@ -47,7 +47,7 @@ of-failure most End failure = absurd failure
 of-failure most Interrupted failure = record { some = tt; few = omega arith }
 of-failure most Failed failure = record { some = tt; few = omega arith }
 
-pub told : (z : ℤ) (most : ℕ) (r : Got) → Moved most z → Tells z r → Told most r
+pub told : (z : ℤ) (most : ℕ) (r : Got) → Moved most z → ReadTells z r → Told most r
 told (pos zero) most r moved is = subst (Told most) (sym is) (record { some = tt; few = omega arith })
 told (pos (suc k)) most r moved is = subst (Told most) (sym is) (record { some = omega arith; few = moved })
 told (negsuc k) most r moved failure = of-failure most r failure

@@ -30,10 +30,10 @@ IsFailure Got.Interrupted = Unit {0}
 IsFailure Got.Failed = Unit {0}
 
 -- What a read's answer tells. "Only a read that answers 0 ends the input".
-abbrev pub Tells : ℤ → Got → Type 0
-Tells (pos zero) r = r ≡ Got.End
-Tells (pos (suc n)) r = r ≡ Got.Bytes (suc n)
-Tells (negsuc n) r = IsFailure r
+abbrev pub ReadTells : ℤ → Got → Type 0
+ReadTells (pos zero) r = r ≡ Got.End
+ReadTells (pos (suc n)) r = r ≡ Got.Bytes (suc n)
+ReadTells (negsuc n) r = IsFailure r
 
 -- After a read that put bytes, or was interrupted, there is another.
 abbrev pub GoesOn : Got → Type 0
@@ -60,15 +60,15 @@ came none = []
 came (more {at} {v} {w′} before r on one) = came before ++ take (put r) (drop at w′)
 
 -- The reading is over where a last read found the end, or where the buffer is full.
-pub data Over (w : List ℕ) (n : ℕ) (v : List ℕ) : List ℕ → Type 0 where
-  ended : {w′ : List ℕ} → ReadAt v n Got.End w′ → Over w n v w′
-  full : n ≡ length v → Over w n v v
+pub data ReadingOver (w : List ℕ) (n : ℕ) (v : List ℕ) : List ℕ → Type 0 where
+  ended : {w′ : List ℕ} → ReadAt v n Got.End w′ → ReadingOver w n v w′
+  full : n ≡ length v → ReadingOver w n v v
 
 -- "the bytes it hands on are all the bytes that were read, in order"
 pub record Whole (w : List ℕ) (n : ℕ) (w′ : List ℕ) : Type 0 where
   pub last : List ℕ
   pub reads : Reads w n last
-  pub over : Over w n last w′
+  pub over : ReadingOver w n last w′
   pub in-order : take n w′ ≡ came reads
   pub fits : n ≤ length w′
 

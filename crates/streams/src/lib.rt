@@ -4,7 +4,7 @@ ghost use mathlib.Core.Path.{_≡_};
 ghost use Prim.Native.Nat.{_≤_};
 ghost use lib.ListN.{length};
 ghost use Rattle.libc.specs.Io.{Moved};
-ghost use Rattle.streams.specs.Reads.{Tells, ReadAt, Handed};
+ghost use Rattle.streams.specs.Reads.{ReadTells, ReadAt, Handed};
 
 // What came of a file, as standard input: so many bytes, fewer than were asked for only where the input ended; or a read failed.
 pub enum Input {
@@ -26,7 +26,7 @@ const TRIES: u32 = 1000000;
 // What a read's answer tells: only 0 is the end of the input.
 fn told(got: isize, part: &[u8]) -> Got
     requires { ⌜ Moved (length (now part)) got ⌝ }
-    ensures { λ r. ⌜ Tells got r ⌝ }
+    ensures { λ r. ⌜ ReadTells got r ⌝ }
 {
     if got == 0 {
         return Got::End;

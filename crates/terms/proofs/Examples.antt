@@ -1,6 +1,6 @@
 -- The examples of specs/Examples hold by computation.
 use mathlib.Core.Path.{refl}
-use Rattle.terms.specs.Examples.{Edges, Numbered, InOrder}
+use Rattle.terms.specs.Examples.{Edges, PolicyNumbers, InOrder}
 
 pub edges : Edges
 edges = record {
@@ -13,7 +13,7 @@ edges = record {
   result = refl;
 }
 
-pub numbered : Numbered
+pub numbered : PolicyNumbers
 numbered = record {
   not-0 = refl;
   car-is-1 = refl;

@@ -19,7 +19,7 @@ pub record Edges : Type 0 where
   pub result : leastResultBytes ≡ 256
 
 -- "1 CAR, 2 CART"; "car or cart"
-pub record Numbered : Type 0 where
+pub record PolicyNumbers : Type 0 where
   pub not-0 : knownPolicy 0 ≡ false
   pub car-is-1 : knownPolicy 1 ≡ true
   pub cart-is-2 : knownPolicy 2 ≡ true

@@ -6,7 +6,7 @@ use lib.ListN.{length, drop, drop-of-length-le}
 use borrow.Author.Needs.{needs}
 use Rattle.sheets.specs.Lines.{lines}
 use Rattle.sheets.specs.Bid.{pagesFrom}
-use Rattle.bid.specs.Answers.{Reads, sizeOf}
+use Rattle.bid.specs.Answers.{ReadsLine, sizeOf}
 use Rattle.bid.specs.declared.Listed.the-variants as Listed
 use Rattle.bid.proofs.Listing.{PageRead, page-read, page-wrong, after, after-none, counts-on}
 use Rattle.bid.proofs.count_pages.Statement.{statement}
@@ -25,20 +25,11 @@ good-page : (c : tie.After-page Inv-loop μ-loop)
     → let in-loop = c .before .before .before .before in
     let s = in-loop .before .before .args .sheet .now in
     PageRead s (in-loop .loop .at) (in-loop .loop .count) (c .page .given .0 .0) (c .page .given .0 .1 .0)
-good-page c = page-read _ _ _ _ _ (subst (Reads _ _ _) (c .page .given .1) (c .before .before .page-line .ensures))
+good-page c = page-read _ _ _ _ _ (subst (ReadsLine _ _ _) (c .page .given .1) (c .before .before .page-line .ensures))
 
 loop-holds : tie.Need-loop-holds Inv-loop μ-loop
 loop-holds c =
     (omega arith, after-none (pagesFrom 0 (lines (drop (c .before .args .start) (c .before .args .sheet .now)))))
-
-page-line-requires : tie.Need-page-line-requires Inv-loop μ-loop
-page-line-requires c κs = search needs
-
-enum-known-page : tie.Need-enum-known-page Inv-loop μ-loop
-enum-known-page c = search needs
-
-number-of-requires : tie.Need-number-of-requires Inv-loop μ-loop
-number-of-requires c κs = search needs
 
 add-t10 : tie.Need-add-t10 Inv-loop μ-loop
 add-t10 c = let few = c .before .before .before .before .loop .inv .0 in search needs
@@ -82,9 +73,9 @@ count-pages-spec =
     Inv-loop
     μ-loop
     loop-holds
-    page-line-requires
-    enum-known-page
-    number-of-requires
+    (λ c κs. search needs)
+    (λ c. search needs)
+    (λ c κs. search needs)
     add-t10
     returns
     add-count

@@ -4,7 +4,7 @@ use Prim.Native.Nat.{_≤_, _<_, _-_}
 use native.Mathlib.Omega.{arith}
 use lib.ListN.{length, length-set}
 use borrow.Author.Needs.{needs}
-use Rattle.bid.specs.Answers.{Reads}
+use Rattle.bid.specs.Answers.{ReadsLine}
 use Rattle.bid.proofs.Listing.{PageRead, page-read, page-wrong}
 use Rattle.bid.proofs.Listing.{Writing, nothing-written, writes-on, all-written, never-wrong}
 use Rattle.bid.proofs.fill.Statement.{statement}
@@ -22,7 +22,7 @@ good-page : (c : tie.After-page Inv-loop μ-loop)
     → let in-loop = c .before .before .before .before in
     let s = in-loop .before .before .before .args .sheet .now in
     PageRead s (in-loop .loop .at) (in-loop .loop .count) (c .page .given .0 .0) (c .page .given .0 .1 .0)
-good-page c = page-read _ _ _ _ _ (subst (Reads _ _ _) (c .page .given .1) (c .before .before .page-line .ensures))
+good-page c = page-read _ _ _ _ _ (subst (ReadsLine _ _ _) (c .page .given .1) (c .before .before .page-line .ensures))
 
 -- There is room for its page.
 roomy : (c : tie.After-page Inv-loop μ-loop)
@@ -34,12 +34,6 @@ roomy c =
 
 loop-holds : tie.Need-loop-holds Inv-loop μ-loop
 loop-holds c = (omega arith, refl, nothing-written _ _ _)
-
-page-line-requires : tie.Need-page-line-requires Inv-loop μ-loop
-page-line-requires c κs = search needs
-
-enum-known-page : tie.Need-enum-known-page Inv-loop μ-loop
-enum-known-page c = search needs
 
 same-length : tie.Need-same-length Inv-loop μ-loop
 same-length c = let h = c .before .before .before .loop .inv .1 in search needs
@@ -89,8 +83,8 @@ fill-spec =
     Inv-loop
     μ-loop
     loop-holds
-    page-line-requires
-    enum-known-page
+    (λ c κs. search needs)
+    (λ c. search needs)
     same-length
     returns
     cast-pages

@@ -5,23 +5,11 @@ use Rattle.bid.proofs.Reader.{short-buffer, long-sheet, by-lines}
 use Rattle.bid.proofs.read.Statement.{statement}
 use Rattle.bid.proofs.read.Tie as tie
 
-refused-requires : tie.Need-refused-requires
-refused-requires c κs = search needs
-
 returns : tie.Need-returns
 returns c = short-buffer _ _ (omega arith) (c .refused .ensures)
 
-refused-requires-2 : tie.Need-refused-requires-2
-refused-requires-2 c κs = search needs
-
 returns-2 : tie.Need-returns-2
 returns-2 c = long-sheet _ _ (omega arith) (omega arith) (c .refused2 .ensures)
-
-read-lines-requires : tie.Need-read-lines-requires
-read-lines-requires c κs = search needs
-
-same-length : tie.Need-same-length
-same-length c = search needs
 
 returns-3 : tie.Need-returns-3
 returns-3 c = by-lines _ _ (omega arith) (omega arith) (c .before .before .read-lines .ensures)
@@ -30,10 +18,10 @@ pub read-spec : {M : Type 1} → statement M
 read-spec =
     tie.close
     (tie.spec
-    refused-requires
+    (λ c κs. search needs)
     returns
-    refused-requires-2
+    (λ c κs. search needs)
     returns-2
-    read-lines-requires
-    same-length
+    (λ c κs. search needs)
+    (λ c. search needs)
     returns-3)

@@ -19,12 +19,6 @@ use Rattle.directory.proofs.check.Tie as tie
 returns : tie.Need-returns
 returns c = check-short _ (c .if1 .taken)
 
-shared-slice-read-known-policy : tie.Need-shared-slice-read-known-policy
-shared-slice-read-known-policy c = search needs
-
-known-policy-requires : tie.Need-known-policy-requires
-known-policy-requires c κs = search needs
-
 returns-2 : tie.Need-returns-2
 returns-2 c =
     check-policy _ (c .before .before .before .if1 .left) (sym (c .before .known-policy .ensures) ∙ not-true _ (c .if2 .taken))
@@ -38,12 +32,6 @@ eight c = c .before .before .before .if1 .left
 policy : (c : tie.Else2) → knownPolicy (getD (w c) 0 0) ≡ true
 policy c = sym (c .before .known-policy .ensures) ∙ not-false _ (c .if2 .left)
 
-shared-slice-read-known-size : tie.Need-shared-slice-read-known-size
-shared-slice-read-known-size c = search needs
-
-known-size-requires : tie.Need-known-size-requires
-known-size-requires c κs = search needs
-
 returns-3 : tie.Need-returns-3
 returns-3 c =
     let e = c .before .before .before in
@@ -51,12 +39,6 @@ returns-3 c =
 
 sized : (c : tie.Else3) → knownSize (size (w (c .before .before .before))) ≡ true
 sized c = sym (c .before .known-size .ensures) ∙ not-false _ (c .if3 .left)
-
-shared-slice-read-wide : tie.Need-shared-slice-read-wide
-shared-slice-read-wide c = search needs
-
-wide-requires : tie.Need-wide-requires
-wide-requires c κs = search needs
 
 mul-if4 : tie.Need-mul-if4
 mul-if4 c = let said = simp reads at (sized (c .before .before)) in omega arith
@@ -101,14 +83,14 @@ check-spec =
     tie.close
     (tie.spec
     returns
-    shared-slice-read-known-policy
-    known-policy-requires
+    (λ c. search needs)
+    (λ c κs. search needs)
     returns-2
-    shared-slice-read-known-size
-    known-size-requires
+    (λ c. search needs)
+    (λ c κs. search needs)
     returns-3
-    shared-slice-read-wide
-    wide-requires
+    (λ c. search needs)
+    (λ c κs. search needs)
     mul-if4
     add-if4
     returns-4

@@ -13,14 +13,8 @@ use borrow.Author.Needs.{needs}
 use Rattle.directory.proofs.fresh.Statement.{statement}
 use Rattle.directory.proofs.fresh.Tie as tie
 
-known-policy-requires : tie.Need-known-policy-requires
-known-policy-requires c κs = search needs
-
 returns : tie.Need-returns
 returns c = fresh-policy _ _ _ (sym (c .before .known-policy .ensures) ∙ not-true _ (c .if1 .taken))
-
-known-size-requires : tie.Need-known-size-requires
-known-size-requires c κs = search needs
 
 policy : (c : tie.Else1) → knownPolicy (c .before .before .before .args .policy) ≡ true
 policy c = sym (c .before .known-policy .ensures) ∙ not-false _ (c .if1 .left)
@@ -31,30 +25,12 @@ returns-2 c = fresh-size _ _ _ (policy (c .before .before)) (sym (c .before .kno
 sized : (c : tie.Else2) → knownSize (c .before .before .before .before .before .args .c) ≡ true
 sized c = sym (c .before .known-size .ensures) ∙ not-false _ (c .if2 .left)
 
-wide-requires : tie.Need-wide-requires
-wide-requires c κs = search needs
-
-mul-if3 : tie.Need-mul-if3
-mul-if3 c = search needs
-
-add-if3 : tie.Need-add-if3
-add-if3 c = search needs
-
 returns-3 : tie.Need-returns-3
 returns-3 c =
     fresh-length _ _ _ (policy (c .before .before .before .before)) (sized (c .before .before)) (λ is. c .if3 .taken (omega arith))
 
-clear-requires : tie.Need-clear-requires
-clear-requires c κs = search needs
-
-slice-write-dir : tie.Need-slice-write-dir
-slice-write-dir c = omega arith
-
 slice-write-dir-2 : tie.Need-slice-write-dir-2
 slice-write-dir-2 c = simp length-set (omega arith)
-
-same-length : tie.Need-same-length
-same-length c = search needs
 
 returns-4 : tie.Need-returns-4
 returns-4 c =
@@ -68,16 +44,16 @@ pub fresh-spec : {M : Type 1} → statement M
 fresh-spec =
     tie.close
     (tie.spec
-    known-policy-requires
+    (λ c κs. search needs)
     returns
-    known-size-requires
+    (λ c κs. search needs)
     returns-2
-    wide-requires
-    mul-if3
-    add-if3
+    (λ c κs. search needs)
+    (λ c. search needs)
+    (λ c. search needs)
     returns-3
-    clear-requires
-    slice-write-dir
+    (λ c κs. search needs)
+    (λ c. omega arith)
     slice-write-dir-2
-    same-length
+    (λ c. search needs)
     returns-4)

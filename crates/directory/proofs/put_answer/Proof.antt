@@ -6,35 +6,11 @@ use Rattle.directory.proofs.Replaying.{four-stores}
 use Rattle.directory.proofs.put_answer.Statement.{statement}
 use Rattle.directory.proofs.put_answer.Tie as tie
 
-mul-answers : tie.Need-mul-answers
-mul-answers c = search needs
-
-slice-write-answers : tie.Need-slice-write-answers
-slice-write-answers c = search needs
-
-add-answers : tie.Need-add-answers
-add-answers c = search needs
-
-mul-answers-2 : tie.Need-mul-answers-2
-mul-answers-2 c = search needs
-
 slice-write-answers-2 : tie.Need-slice-write-answers-2
 slice-write-answers-2 c = simp length-set (omega arith)
 
-add-answers-2 : tie.Need-add-answers-2
-add-answers-2 c = search needs
-
-mul-answers-3 : tie.Need-mul-answers-3
-mul-answers-3 c = search needs
-
 slice-write-answers-3 : tie.Need-slice-write-answers-3
 slice-write-answers-3 c = simp length-set (omega arith)
-
-add-answers-3 : tie.Need-add-answers-3
-add-answers-3 c = search needs
-
-mul-answers-4 : tie.Need-mul-answers-4
-mul-answers-4 c = search needs
 
 slice-write-answers-4 : tie.Need-slice-write-answers-4
 slice-write-answers-4 c = simp length-set (omega arith)
@@ -49,16 +25,16 @@ pub put-answer-spec : {M : Type 1} → statement M
 put-answer-spec =
     tie.close
     (tie.spec
-    mul-answers
-    slice-write-answers
-    add-answers
-    mul-answers-2
+    (λ c. search needs)
+    (λ c. search needs)
+    (λ c. search needs)
+    (λ c. search needs)
     slice-write-answers-2
-    add-answers-2
-    mul-answers-3
+    (λ c. search needs)
+    (λ c. search needs)
     slice-write-answers-3
-    add-answers-3
-    mul-answers-4
+    (λ c. search needs)
+    (λ c. search needs)
     slice-write-answers-4
     same-length
     returns)

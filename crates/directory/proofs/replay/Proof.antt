@@ -6,44 +6,26 @@ use native.Mathlib.Omega.{arith}
 use lib.ListN.{length}
 use borrow.Author.Needs.{needs}
 use Rattle.tally.proofs.Tallies.{within-small}
-use Rattle.directory.proofs.Replaying.{Midway, begins, goes-on, ends}
+use Rattle.directory.proofs.Replaying.{RunMidway, begins, goes-on, ends}
 use Rattle.directory.proofs.replay.Statement.{statement}
 use Rattle.directory.proofs.replay.Tie as tie
 
 abbrev Inv-loop : tie.InvT-loop
 Inv-loop dir₀ trace answers₀ t₀ i₀ dir answers t i =
-    Midway dir₀ trace answers₀ i dir answers t × (length dir ≡ length dir₀) × (length answers ≡ length answers₀)
+    RunMidway dir₀ trace answers₀ i dir answers t × (length dir ≡ length dir₀) × (length answers ≡ length answers₀)
 
 abbrev μ-loop : tie.MeasureT-loop
 μ-loop dir₀ trace answers₀ t₀ i₀ dir answers t i = length trace - i
-
-no-tally-requires : tie.Need-no-tally-requires Inv-loop μ-loop
-no-tally-requires c κs = search needs
 
 loop-holds : tie.Need-loop-holds Inv-loop μ-loop
 loop-holds c =
     let s = c .before .before .before .before in
     (begins (s .args .dir .now) (s .args .trace .now) (s .args .answers .now) (s .pre .0) _ (c .no-tally .ensures), refl, refl)
 
-mul-step : tie.Need-mul-step Inv-loop μ-loop
-mul-step c = search needs
-
-shared-slice-read-step : tie.Need-shared-slice-read-step Inv-loop μ-loop
-shared-slice-read-step c = search needs
-
-mul-step-2 : tie.Need-mul-step-2 Inv-loop μ-loop
-mul-step-2 c = search needs
-
 step-requires : tie.Need-step-requires Inv-loop μ-loop
 step-requires c κs =
     let m = c .before .before .before .before .loop .inv .0 in
     (m .ready, (omega arith, within-small (m .within) (omega arith)))
-
-add-i : tie.Need-add-i Inv-loop μ-loop
-add-i c = search needs
-
-loop-less : tie.Need-loop-less Inv-loop μ-loop
-loop-less c = search needs
 
 loop-again : tie.Need-loop-again Inv-loop μ-loop
 loop-again c =
@@ -66,14 +48,14 @@ replay-spec =
     (tie.spec
     Inv-loop
     μ-loop
-    no-tally-requires
+    (λ c κs. search needs)
     loop-holds
-    mul-step
-    shared-slice-read-step
-    mul-step-2
+    (λ c. search needs)
+    (λ c. search needs)
+    (λ c. search needs)
     step-requires
-    add-i
-    loop-less
+    (λ c. search needs)
+    (λ c. search needs)
     loop-again
     same-length
     same-length-2

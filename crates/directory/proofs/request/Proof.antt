@@ -7,12 +7,6 @@ use Rattle.directory.proofs.Requesting.{accepted-sound, requested-refus
 use Rattle.directory.proofs.request.Statement.{statement}
 use Rattle.directory.proofs.request.Tie as tie
 
-check-requires : tie.Need-check-requires
-check-requires c κs = search needs
-
-same-length : tie.Need-same-length
-same-length c = search needs
-
 returns : tie.Need-returns
 returns c =
     let s = c .before .before .before .before in
@@ -22,9 +16,6 @@ serve-requires : tie.Need-serve-requires
 serve-requires c κs =
     ready _ (accepted-sound (c .before .before .before .before .before .args .dir .now) (sym (c .before .before .check .ensures .number-is) ∙ omega arith))
 
-same-length-2 : tie.Need-same-length-2
-same-length-2 c = search needs
-
 returns-2 : tie.Need-returns-2
 returns-2 c =
     let s = c .before .before .before .before .before .before .before .before in
@@ -33,4 +24,4 @@ returns-2 c =
 
 pub request-spec : {M : Type 1} → statement M
 request-spec =
-    tie.close (tie.spec check-requires same-length returns serve-requires same-length-2 returns-2)
+    tie.close (tie.spec (λ c κs. search needs) (λ c. search needs) returns serve-requires (λ c. search needs) returns-2)

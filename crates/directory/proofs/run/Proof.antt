@@ -8,37 +8,13 @@ use Rattle.directory.proofs.Running.{run-refused, run-too-many, run-sho
 use Rattle.directory.proofs.run.Statement.{statement}
 use Rattle.directory.proofs.run.Tie as tie
 
-check-requires : tie.Need-check-requires
-check-requires c κs = search needs
-
-no-tally-requires : tie.Need-no-tally-requires
-no-tally-requires c κs = search needs
-
-same-length : tie.Need-same-length
-same-length c = search needs
-
 returns : tie.Need-returns
 returns c = run-refused _ _ _ _ (c .before .before .check .ensures .number-is) (c .before .if1 .taken) _ (c .no-tally .ensures)
-
-no-tally-requires-2 : tie.Need-no-tally-requires-2
-no-tally-requires-2 c κs = search needs
-
-same-length-2 : tie.Need-same-length-2
-same-length-2 c = search needs
 
 returns-2 : tie.Need-returns-2
 returns-2 c =
     let k = c .before .before .before in
     run-too-many _ _ _ _ (k .check .ensures .number-is) (omega arith) (omega arith) _ (c .no-tally2 .ensures)
-
-mul-if3 : tie.Need-mul-if3
-mul-if3 c = search needs
-
-no-tally-requires-3 : tie.Need-no-tally-requires-3
-no-tally-requires-3 c κs = search needs
-
-same-length-3 : tie.Need-same-length-3
-same-length-3 c = search needs
 
 returns-3 : tie.Need-returns-3
 returns-3 c =
@@ -50,12 +26,6 @@ replay-requires c κs =
     let k = c .before .before .before .before .before in
     (ready _ (accepted-sound _ (sym (k .check .ensures .number-is) ∙ omega arith)), (omega arith, omega arith))
 
-same-length-4 : tie.Need-same-length-4
-same-length-4 c = search needs
-
-same-length-5 : tie.Need-same-length-5
-same-length-5 c = search needs
-
 returns-4 : tie.Need-returns-4
 returns-4 c =
     let r = c .before .before .before .before in
@@ -66,18 +36,18 @@ pub run-spec : {M : Type 1} → statement M
 run-spec =
     tie.close
     (tie.spec
-    check-requires
-    no-tally-requires
-    same-length
+    (λ c κs. search needs)
+    (λ c κs. search needs)
+    (λ c. search needs)
     returns
-    no-tally-requires-2
-    same-length-2
+    (λ c κs. search needs)
+    (λ c. search needs)
     returns-2
-    mul-if3
-    no-tally-requires-3
-    same-length-3
+    (λ c. search needs)
+    (λ c κs. search needs)
+    (λ c. search needs)
     returns-3
     replay-requires
-    same-length-4
-    same-length-5
+    (λ c. search needs)
+    (λ c. search needs)
     returns-4)

@@ -36,7 +36,7 @@ use denote.Triple.Clauses.{ensured, lasts}
 use Rattle.lines.specs.Cursor.{lineAt}
 use Rattle.lines.specs.declared.SheetReader.{SheetReader}
 use Rattle.lines.specs.declared.Line.{Line}
-use Rattle.lines.proofs.Walk.{Bytes, val, Own, Alive, Answer, with-number, answers, Entry, Left, leaves, by-walk}
+use Rattle.lines.proofs.Walk.{Bytes, val, OwnsBytes, Alive, Answer, with-number, answers, AtEntry, WalkPost, leaves, by-walk}
 use Rattle.lines.proofs.SheetReader as T
 use Rattle.lines.proofs.SheetReader.Laws as T′
 use Rattle.lines.proofs.Line as S
@@ -52,8 +52,8 @@ use Rattle.lines.proofs.line_at.Code as code
 
 module _ {M : Type 1} (𝓤 : URA M) (H : Heap 𝓤) (A : Atoms 𝓤) (mem : Memory → SProp 𝓤) (run : Routine → Fun 𝓤) where
   -- the contract of `next_line`
-  abbrev Next : Contract 𝓤
-  Next = tripleOf 𝓤 H A next.signature (next.spec 𝓤 H A mem run)
+  abbrev NextLine : Contract 𝓤
+  NextLine = tripleOf 𝓤 H A next.signature (next.spec 𝓤 H A mem run)
 
   module _ (W : Given 𝓤 H A) where
     module _ (κ : Lft) (q : Share) (s : RefT (List ℕ)) (at : ℕ) (fits : at < 2 ^ 64) where
@@ -70,22 +70,22 @@ module _ {M : Type 1} (𝓤 : URA M) (H : Heap 𝓤) (A : Atoms 𝓤) (mem : Mem
       abbrev OwnReader : Fml
       OwnReader = T.the-row α .own reader (T′.lowered reader ∷ [])
 
-      abbrev to : Next .Ghost
+      abbrev to : NextLine .Ghost
       to = (((κ, tt), (q, tt), tt, (reader, tt), (T′.lowered reader ∷ [], tt)), tt)
 
-      asked : ent 𝓤 (⋆ 𝓤 H A (‵ OwnReader ∷ Alive κ q ∷ [])) (Next .pre to)
+      asked : ent 𝓤 (⋆ 𝓤 H A (‵ OwnReader ∷ Alive κ q ∷ [])) (NextLine .pre to)
       asked =
           qed W (‵ OwnReader ∷ Alive κ q ∷ []) ∵
           nothing ! $ move ! (1 ∷ 0 ∷ []) $ fjoin ! $ move ! (1 ∷ 0 ∷ []) $ join ! $ frame ! $ done !
 
       -- the reader is made of a copy of what the slice owns
-      goes : ent 𝓤 (⋆ 𝓤 H A (Alive κ q ∷ ‵ (Own κ s) ∷ [])) (sep 𝓤 (Next .pre to) (sem 𝓤 H A (Own κ s)))
+      goes : ent 𝓤 (⋆ 𝓤 H A (Alive κ q ∷ ‵ (OwnsBytes κ s) ∷ [])) (sep 𝓤 (NextLine .pre to) (sem 𝓤 H A (OwnsBytes κ s)))
       goes =
-          qed W (Alive κ q ∷ ‵ (Own κ s) ∷ []) ∵ move ! (1 ∷ []) $
-          use1 W (‵ (Own κ s) ⊛ ‵ (Own κ s)) (shr-slice-copy 𝓤 H A W (named 0) κ u8 .twice s (val s ∷ [])) $ split ! $
+          qed W (Alive κ q ∷ ‵ (OwnsBytes κ s) ∷ []) ∵ move ! (1 ∷ []) $
+          use1 W (‵ (OwnsBytes κ s) ⊛ ‵ (OwnsBytes κ s)) (shr-slice-copy 𝓤 H A W (named 0) κ u8 .twice s (val s ∷ [])) $ split ! $
           with-number ! w64 κ s at fits $
           use1 W (‵ OwnReader) (own-shut 𝓤 H A W (T.the-type α) (T′.the-laws α) (s, (at, tt))) $
-          move ! (0 ∷ 2 ∷ []) $ use2 W (raw (Next .pre to)) asked $ frame ! $ done !
+          move ! (0 ∷ 2 ∷ []) $ use2 W (raw (NextLine .pre to)) asked $ frame ! $ done !
 
       -- of what `next_line` ensures, the clause alone: it has no `&mut`, so what is said of last values is dropped
       abbrev said : Line → SProp 𝓤
@@ -94,14 +94,14 @@ module _ {M : Type 1} (𝓤 : URA M) (H : Heap 𝓤) (A : Atoms 𝓤) (mem : Mem
       tells : (t : Line) → ent 𝓤 (said t) (fact 𝓤 (t ≡ found))
       tells t = exE 𝓤 _ (λ ws. snd∗ 𝓤 (sem 𝓤 H A (lasts next.ended (κ, tt) (reader, tt) ws)) (fact 𝓤 (t ≡ found)))
 
-      module _ (𝓣 : Tables 𝓤 H) (known : Triple 𝓤 (𝓣 .C #lines·next-line) Next) where
+      module _ (𝓣 : Tables 𝓤 H) (known : Triple 𝓤 (𝓣 .C #lines·next-line) NextLine) where
         walk : Is (Bytes κ) s (val s ∷ [])
-            → ent 𝓤 (⋆ 𝓤 H A (Entry w64 κ q s at))
+            → ent 𝓤 (⋆ 𝓤 H A (AtEntry w64 κ q s at))
             (WpFn 𝓤 H (𝓣 .C) (𝓣 .Λ) code.function (val s ∷ vint w64 at ∷ [])
-            (Left 𝓤 H A w64 (me.signature .result) (me.clauses 𝓤 H A mem run) κ q s at tt))
+            (WalkPost 𝓤 H A w64 (me.signature .result) (me.clauses 𝓤 H A mem run) κ q s at tt))
         walk is-slice =
             let typed = shr-slice-lawful 𝓤 H A W (named 0) κ u8 .typed s (val s ∷ []) is-slice .0 in
-            qed W (Entry w64 κ q s at) ∵
+            qed W (AtEntry w64 κ q s at) ∵
             enter ! (𝓣 .C) (𝓣 .Λ) code.function (val s ∷ vint w64 at ∷ []) _ $
             alloc1 ! (λ l₀. alloc1 ! (λ l₁. alloc1 ! (λ l₂. alloc1 ! (λ l₃. alloc0 ! $ params1 ! $
             pass1 ! (init ! 4 refl typed) $ pass1 ! (init ! 2 refl (tt, record { fits = fits })) $ pass0 ! $
@@ -111,8 +111,8 @@ module _ {M : Type 1} (𝓤 : URA M) (H : Heap 𝓤) (A : Atoms 𝓤) (mem : Mem
             (from ! (stop !)) (init ! 0 refl (tt, (typed .1, (record { fits = fits }, tt)))) $
             -- [_3; …; _2; …; _1; …; room for _0; …; the token; what the parameters own]
             move ! (9 ∷ []) $ fsplit ! $ move ! (1 ∷ []) $ drop ! $ move ! (9 ∷ 0 ∷ []) $
-            use2 W (raw (Next .pre to) ⊛ ‵ (Own κ s)) goes $ split ! $
-            calls-at ! (fmOf 𝓤 H (W .laws) 𝓣) Next known to
+            use2 W (raw (NextLine .pre to) ⊛ ‵ (OwnsBytes κ s)) goes $ split ! $
+            calls-at ! (fmOf 𝓤 H (W .laws) 𝓣) NextLine known to
             (and-then ! (load ! (from ! (stop !)) (look ! 2 refl)) (no-more !)) (λ u.
             use1 W (Answer κ q S.the-row u said) (id⊢ 𝓤 _) $
             answers ! tt κ q S.the-row u said (λ t. t ≡ found) tells (λ t e.
@@ -125,7 +125,7 @@ module _ {M : Type 1} (𝓤 : URA M) (H : Heap 𝓤) (A : Atoms 𝓤) (mem : Mem
             by ! (leaves 𝓤 H A W w64 (me.signature .result) (me.clauses 𝓤 H A mem run) κ q s at tt fits t u
             (factI 𝓤 _ (emp 𝓤) e)))))))))
 
-    meets : (𝓣 : Tables 𝓤 H) → Triple 𝓤 (𝓣 .C #lines·next-line) Next
+    meets : (𝓣 : Tables 𝓤 H) → Triple 𝓤 (𝓣 .C #lines·next-line) NextLine
         → Meets 𝓤 H A me.signature (WpFn 𝓤 H (𝓣 .C) (𝓣 .Λ) code.function) (me.spec 𝓤 H A mem run)
     meets 𝓣 known =
         by-walk 𝓤 H A W w64 (me.signature .result) (me.clauses 𝓤 H A mem run) 𝓣 code.function
@@ -137,5 +137,5 @@ line-at-spec 𝓤 H 𝓜 𝓖 𝓡 =
     entered 𝓤 H (tripleOf 𝓤 H (𝓖 .A) me.signature (me.spec 𝓤 H (𝓖 .A) (𝓜 .mem) (𝓡 .run)))
     (tables 𝓤 H 𝓜 𝓡 code.env .C) (tables 𝓤 H 𝓜 𝓡 code.env .Λ) #lines·line-at code.function (code.unfolded 𝓤 H 𝓜 𝓡)
     (meets 𝓤 H (𝓖 .A) (𝓜 .mem) (𝓡 .run) (givenOf 𝓤 H 𝓜 𝓖) (tablesOf 𝓤 H 𝓜 (tables 𝓤 H 𝓜 𝓡 code.env))
-    (cited 𝓤 H (Next 𝓤 H (𝓖 .A) (𝓜 .mem) (𝓡 .run)) 𝓜 𝓡 code.env #lines·next-line next-def.routine
+    (cited 𝓤 H (NextLine 𝓤 H (𝓖 .A) (𝓜 .mem) (𝓡 .run)) 𝓜 𝓡 code.env #lines·next-line next-def.routine
     code.calls-lines·next-line (next-thm.met 𝓤 H 𝓜 𝓖 𝓡)))

@@ -44,8 +44,8 @@ use Rattle.lines.specs.Cursor.{SpanOf}
 use Rattle.lines.specs.Stretch.{Stretch, LookedUp}
 use Rattle.lines.specs.declared.Found.{Found}
 use Rattle.lines.specs.declared.Span.{Span}
-use Rattle.lines.proofs.Walk.{Bytes, val, Own, Alive, Answer, answers}
-use Rattle.lines.proofs.Walk.{passed, Entry, Left, hands, leaves, by-walk}
+use Rattle.lines.proofs.Walk.{Bytes, val, OwnsBytes, Alive, Answer, answers}
+use Rattle.lines.proofs.Walk.{passed, AtEntry, WalkPost, hands, leaves, by-walk}
 use Rattle.lines.proofs.Found as T
 use Rattle.lines.proofs.Found.Laws as T′
 use Rattle.lines.proofs.Span as P
@@ -72,8 +72,8 @@ module _ {M : Type 1} (𝓤 : URA M) (H : Heap 𝓤) (A : Atoms 𝓤) (mem : Mem
   Cuts = tripleOf 𝓤 H A cut.signature (cut.spec 𝓤 H A mem run)
 
   -- what the walk shows
-  abbrev Shown : Lft → Share → RefT (List ℕ) → ℕ → Val → SProp 𝓤
-  Shown κ q s n = Left 𝓤 H A w32 (me.signature .result) (me.clauses 𝓤 H A mem run) κ q s n tt
+  abbrev WalkShows : Lft → Share → RefT (List ℕ) → ℕ → Val → SProp 𝓤
+  WalkShows κ q s n = WalkPost 𝓤 H A w32 (me.signature .result) (me.clauses 𝓤 H A mem run) κ q s n tt
 
   module _ (W : Given 𝓤 H A) where
     module _ (κ : Lft) (q : Share) (s : RefT (List ℕ)) (n : ℕ) (n-fits : n < 2 ^ 32) where
@@ -114,10 +114,10 @@ module _ {M : Type 1} (𝓤 : URA M) (H : Heap 𝓤) (A : Atoms 𝓤) (mem : Mem
           says ! (e .ordered, e .inside) $ frame ! $ done !
 
       goes-cut : (p : Span) → p .start < 2 ^ 64 → p .stop < 2 ^ 64 → SpanIs p
-          → ent 𝓤 (⋆ 𝓤 H A (Alive κ q ∷ ‵ (Own κ s) ∷ [])) (sep 𝓤 (Cuts .pre (to-cut p)) (sem 𝓤 H A (Own κ s)))
+          → ent 𝓤 (⋆ 𝓤 H A (Alive κ q ∷ ‵ (OwnsBytes κ s) ∷ [])) (sep 𝓤 (Cuts .pre (to-cut p)) (sem 𝓤 H A (OwnsBytes κ s)))
       goes-cut p start-fits stop-fits e =
-          qed W (Alive κ q ∷ ‵ (Own κ s) ∷ []) ∵ move ! (1 ∷ []) $
-          use1 W (‵ (Own κ s) ⊛ ‵ (Own κ s)) (shr-slice-copy 𝓤 H A W (named 0) κ u8 .twice s (val s ∷ [])) $ split ! $
+          qed W (Alive κ q ∷ ‵ (OwnsBytes κ s) ∷ []) ∵ move ! (1 ∷ []) $
+          use1 W (‵ (OwnsBytes κ s) ⊛ ‵ (OwnsBytes κ s)) (shr-slice-copy 𝓤 H A W (named 0) κ u8 .twice s (val s ∷ [])) $ split ! $
           nothing ! $ owned ! usize (Is usize) (uint-makes 𝓤 H A W w64) (p .stop) _ (refl, stop-fits) $ fjoin ! $
           owned ! usize (Is usize) (uint-makes 𝓤 H A W w64) (p .start) _ (refl, start-fits) $ fjoin ! $
           move ! (1 ∷ 0 ∷ []) $ fjoin ! $
@@ -147,10 +147,10 @@ module _ {M : Type 1} (𝓤 : URA M) (H : Heap 𝓤) (A : Atoms 𝓤) (mem : Mem
       }
 
       exits : (p : Span) (r : RefT (List ℕ)) → p .number < 2 ^ 32 → LookedUp s n (made p r)
-          → ent 𝓤 (⋆ 𝓤 H A (‵ (Bytes κ .own r (val r ∷ [])) ∷ Alive κ q ∷ ‵ (Own κ s) ∷ []))
-          (Shown κ q s n (T′.lowered (made p r)))
+          → ent 𝓤 (⋆ 𝓤 H A (‵ (Bytes κ .own r (val r ∷ [])) ∷ Alive κ q ∷ ‵ (OwnsBytes κ s) ∷ []))
+          (WalkShows κ q s n (T′.lowered (made p r)))
       exits p r number-fits e =
-          qed W (‵ (Bytes κ .own r (val r ∷ [])) ∷ Alive κ q ∷ ‵ (Own κ s) ∷ []) ∵
+          qed W (‵ (Bytes κ .own r (val r ∷ [])) ∷ Alive κ q ∷ ‵ (OwnsBytes κ s) ∷ []) ∵
           -- what the fields own together is what the struct owns
           nothing ! $ move ! (1 ∷ 0 ∷ []) $ fjoin ! $
           owned ! u32 (Is u32) (uint-makes 𝓤 H A W w32) (p .number) _ (refl, number-fits) $ fjoin ! $
@@ -165,17 +165,17 @@ module _ {M : Type 1} (𝓤 : URA M) (H : Heap 𝓤) (A : Atoms 𝓤) (mem : Mem
           (cuts : Triple 𝓤 (𝓣 .C #lines·cut) Cuts)
         where
           walk : Is (Bytes κ) s (val s ∷ [])
-              → ent 𝓤 (⋆ 𝓤 H A (Entry w32 κ q s n))
-              (WpFn 𝓤 H (𝓣 .C) (𝓣 .Λ) code.function (val s ∷ vint w32 n ∷ []) (Shown κ q s n))
+              → ent 𝓤 (⋆ 𝓤 H A (AtEntry w32 κ q s n))
+              (WpFn 𝓤 H (𝓣 .C) (𝓣 .Λ) code.function (val s ∷ vint w32 n ∷ []) (WalkShows κ q s n))
           walk is-slice =
               let typed = shr-slice-lawful 𝓤 H A W (named 0) κ u8 .typed s (val s ∷ []) is-slice .0 in
-              qed W (Entry w32 κ q s n) ∵
+              qed W (AtEntry w32 κ q s n) ∵
               enter ! (𝓣 .C) (𝓣 .Λ) code.function (val s ∷ vint w32 n ∷ []) _ $
               alloc1 ! (λ l₀. alloc1 ! (λ l₁. alloc1 ! (λ l₂. alloc1 ! (λ l₃. alloc1 ! (λ l₄. alloc0 ! $ params1 ! $
               pass1 ! (init ! 6 refl typed) $ pass1 ! (init ! 4 refl (tt, record { fits = n-fits })) $ pass0 ! $
               -- [_4; …; _3; …; _2; …; _1; …; room for _0; …; the token; what the parameters own]
               move ! (11 ∷ []) $ fsplit ! $ move ! (1 ∷ []) $ drop ! $ move ! (11 ∷ 0 ∷ []) $
-              use2 W (raw (Spans .pre to-span) ⊛ ‵ (Own κ s)) (hands 𝓤 H A W w32 κ q s n n-fits) $ split ! $
+              use2 W (raw (Spans .pre to-span) ⊛ ‵ (OwnsBytes κ s)) (hands 𝓤 H A W w32 κ q s n n-fits) $ split ! $
               -- _3 = span_of(_1, _2)
               calls-at ! (fmOf 𝓤 H (W .laws) 𝓣) Spans spans to-span
               (and-then ! (load ! (from ! (stop !)) (look ! 8 refl))
@@ -192,7 +192,7 @@ module _ {M : Type 1} (𝓤 : URA M) (H : Heap 𝓤) (A : Atoms 𝓤) (mem : Mem
               let fields = LL.owed P.the-type P′.the-laws p _ is in
               let start-fits = fields .1 .0 .1 in
               let stop-fits = fields .1 .1 .0 .1 in
-              drop ! $ use2 W (raw (Cuts .pre (to-cut p)) ⊛ ‵ (Own κ s)) (goes-cut p start-fits stop-fits e) $ split ! $
+              drop ! $ use2 W (raw (Cuts .pre (to-cut p)) ⊛ ‵ (OwnsBytes κ s)) (goes-cut p start-fits stop-fits e) $ split ! $
               -- _4 = cut(_1, _3.start, _3.stop)
               calls-at ! (fmOf 𝓤 H (W .laws) 𝓣) Cuts cuts (to-cut p)
               (and-then ! (load ! (from ! (stop !)) (look ! 8 refl))

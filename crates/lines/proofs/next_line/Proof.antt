@@ -101,8 +101,8 @@ module _ {M : Type 1} (𝓤 : URA M) (H : Heap 𝓤) (A : Atoms 𝓤) (mem : Mem
       Entered = onEntry 𝓤 H A me.signature (κ, tt) (q, tt) (d, tt) (mach ∷ [], tt)
 
       -- what the reader owns
-      abbrev Own : Fml
-      Own = Reader (κ, tt) .own d (mach ∷ [])
+      abbrev OwnsReader : Fml
+      OwnsReader = Reader (κ, tt) .own d (mach ∷ [])
 
       -- its declaration and laws, and its fields' values
       abbrev D : Declared
@@ -121,11 +121,11 @@ module _ {M : Type 1} (𝓤 : URA M) (H : Heap 𝓤) (A : Atoms 𝓤) (mem : Mem
       asked = qed W (Alive κ q ∷ ‵ (owns (Bytes κ ∷ usize ∷ []) fields passed) ∷ []) ∵ join ! $ frame ! $ done !
 
       -- what the reader owns gives what the callee asks, and is kept
-      apart : d .at < 2 ^ 64 → ent 𝓤 Entered (sep 𝓤 (LineFrom .pre to) (sem 𝓤 H A Own))
+      apart : d .at < 2 ^ 64 → ent 𝓤 Entered (sep 𝓤 (LineFrom .pre to) (sem 𝓤 H A OwnsReader))
       apart fits =
           qed W (Alive κ q ∷ ‵ (owns (Reader (κ, tt) ∷ []) (d, tt) (mach ∷ [], tt)) ∷ []) ∵
           move ! (1 ∷ []) $ fsplit ! $ move ! (1 ∷ []) $ drop ! $
-          use1 W (‵ Own ⊛ ‵ Own) (LL.copy D (T′.the-copy α) 𝓤 H A W .twice d (mach ∷ [])) $ split ! $
+          use1 W (‵ OwnsReader ⊛ ‵ OwnsReader) (LL.copy D (T′.the-copy α) 𝓤 H A W .twice d (mach ∷ [])) $ split ! $
           use1 W (given (mach ∷ [] ≡ mach ∷ []) (‵ (all-own (D .parts) L fields))) (own-open 𝓤 H A W D L fields mach) $
           learn ! (λ _. use1 W (‵ (ownAt (D .parts) L 0 (d .sheet)) ⊛ ‵ (rest (D .parts) L 0 fields))
           (own-out 𝓤 H A W (D .parts) L 0 fields) $
@@ -141,9 +141,9 @@ module _ {M : Type 1} (𝓤 : URA M) (H : Heap 𝓤) (A : Atoms 𝓤) (mem : Mem
       tells r = exE 𝓤 _ (λ ws. snd∗ 𝓤 (sem 𝓤 H A (lasts line-from.ended (κ, tt) fields ws)) (fact 𝓤 (r ≡ found)))
 
       exits : (r : Line) (u : Val) → r ≡ found
-          → ent 𝓤 (⋆ 𝓤 H A (‵ (S.the-row .own r (u ∷ [])) ∷ Alive κ q ∷ ‵ Own ∷ [])) (Me .post entry u)
+          → ent 𝓤 (⋆ 𝓤 H A (‵ (S.the-row .own r (u ∷ [])) ∷ Alive κ q ∷ ‵ OwnsReader ∷ [])) (Me .post entry u)
       exits r u e =
-          qed W (‵ (S.the-row .own r (u ∷ [])) ∷ Alive κ q ∷ ‵ Own ∷ []) ∵
+          qed W (‵ (S.the-row .own r (u ∷ [])) ∷ Alive κ q ∷ ‵ OwnsReader ∷ []) ∵
           suffices ! _
           (ends-at 𝓤 H A me.ended stayed (me.clauses 𝓤 H A mem run) W entry u r (tt, tt) (tt, tt)) $
           says ! e $ move ! (1 ∷ []) $ frame ! $ nothing ! $ move ! (2 ∷ 0 ∷ []) $ fjoin ! $ frame ! $ done !
@@ -161,7 +161,7 @@ module _ {M : Type 1} (𝓤 : URA M) (H : Heap 𝓤) (A : Atoms 𝓤) (mem : Mem
             assigns ! (of-opd ! (load ! (from ! (fld ! refl (stop !))) (look-in ! 4 (sub ! 1 refl (whole !)))))
             (from ! (stop !)) (init ! 0 refl (tt, typed .1 .1 .0)) $
             -- [_3; …; _2; …; _1; …; room for _0; …; the token and what the parameter owns]
-            move ! (8 ∷ []) $ use1 W (raw (LineFrom .pre to) ⊛ ‵ Own) (apart (typed .1 .1 .0 .fits)) $ split ! $
+            move ! (8 ∷ []) $ use1 W (raw (LineFrom .pre to) ⊛ ‵ OwnsReader) (apart (typed .1 .1 .0 .fits)) $ split ! $
             calls-at ! (fmOf 𝓤 H (W .laws) 𝓣) LineFrom known to
             (and-then ! (load ! (from ! (stop !)) (look ! 4 refl))
             (and-then ! (load ! (from ! (stop !)) (look ! 2 refl)) (no-more !))) (λ u.

@@ -20,9 +20,6 @@ Inv-loop sheet line n₀ at₀ n at =
 abbrev μ-loop : tie.MeasureT-loop
 μ-loop sheet line n₀ at₀ n at = line + 1 - n
 
-refused-requires : tie.Need-refused-requires Inv-loop μ-loop
-refused-requires c κs = search needs
-
 returns : tie.Need-returns Inv-loop μ-loop
 returns c =
     let a = c .before .before .before .args in
@@ -33,18 +30,6 @@ loop-holds c =
     let a = c .before .before .args in
     let all : a .line ≡ a .line + 1 - 1 = omega arith in
     (omega arith, omega arith, omega arith, ap (valueFrom (a .sheet .now) 0) all)
-
-line-at-requires : tie.Need-line-at-requires Inv-loop μ-loop
-line-at-requires c κs = search needs
-
-enum-known-end : tie.Need-enum-known-end Inv-loop μ-loop
-enum-known-end c = search needs
-
-enum-told : tie.Need-enum-told Inv-loop μ-loop
-enum-told c = search needs
-
-refused-requires-2 : tie.Need-refused-requires-2 Inv-loop μ-loop
-refused-requires-2 c κs = search needs
 
 returns-2 : tie.Need-returns-2 Inv-loop μ-loop
 returns-2 c =
@@ -82,12 +67,6 @@ add-at c =
     let closed = closed-line s (v .at) _ (sym at ∙ c .before .before .end .given .1) in
     omega (arith, closed .inside, v .inv .2)
 
-add-n : tie.Need-add-n Inv-loop μ-loop
-add-n c = search needs
-
-loop-less : tie.Need-loop-less Inv-loop μ-loop
-loop-less c = search needs
-
 loop-again : tie.Need-loop-again Inv-loop μ-loop
 loop-again c =
     let a = c .before .before .before .before .before .before .before .before .before .args in
@@ -102,9 +81,6 @@ loop-again c =
     let later = in-a-later-line s (v .at) stop closed left in
     let on = ap (valueFrom s (v .at)) more ∙ later ∙ ap (valueFrom s (stop + 1)) fewer in
     (omega arith, omega (arith, fewer), v .inv .2, v .inv .3 ∙ on)
-
-refused-requires-3 : tie.Need-refused-requires-3 Inv-loop μ-loop
-refused-requires-3 c κs = search needs
 
 returns-4 : tie.Need-returns-4 Inv-loop μ-loop
 returns-4 c =
@@ -121,19 +97,19 @@ span-of-spec =
     (tie.spec
     Inv-loop
     μ-loop
-    refused-requires
+    (λ c κs. search needs)
     returns
     loop-holds
-    line-at-requires
-    enum-known-end
-    enum-told
-    refused-requires-2
+    (λ c κs. search needs)
+    (λ c. search needs)
+    (λ c. search needs)
+    (λ c κs. search needs)
     returns-2
     value-in-requires
     returns-3
     add-at
-    add-n
-    loop-less
+    (λ c. search needs)
+    (λ c. search needs)
     loop-again
-    refused-requires-3
+    (λ c κs. search needs)
     returns-4)

@@ -10,9 +10,6 @@ use Rattle.numbers.proofs.Asked.{holds, fails}
 use Rattle.numbers.proofs.in_form.Statement.{statement}
 use Rattle.numbers.proofs.in_form.Tie as tie
 
-all-digits-requires : tie.Need-all-digits-requires
-all-digits-requires c κs = search needs
-
 returns : tie.Need-returns
 returns c =
     let a = c .before .before .args in
@@ -23,9 +20,6 @@ returns c =
     (λ w. omega (arith, ltb-true))
     (λ w. true≢false (sym (form .digits) ∙ fails (w .2 .ensures) (w .3 .taken))))
     (c .if1 .came)))
-
-shared-slice-read-result : tie.Need-shared-slice-read-result
-shared-slice-read-result c = search needs
 
 returns-2 : tie.Need-returns-2
 returns-2 c =
@@ -43,4 +37,4 @@ returns-3 c =
 
 pub in-form-spec : {M : Type 1} → statement M
 in-form-spec =
-    tie.close (tie.spec all-digits-requires returns shared-slice-read-result returns-2 returns-3)
+    tie.close (tie.spec (λ c κs. search needs) returns (λ c. search needs) returns-2 returns-3)

@@ -5,16 +5,10 @@ use borrow.Author.Needs.{needs}
 use Rattle.numbers.proofs.thousandths.Statement.{statement}
 use Rattle.numbers.proofs.thousandths.Tie as tie
 
-value-requires : tie.Need-value-requires
-value-requires c κs = search needs
-
 mul-result : tie.Need-mul-result
 mul-result c =
     let x = c .before .before .before in
     omega (arith, c .value .ensures, value-below 4 (x .args .before .now) (x .pre .0 .1) (x .pre .0 .0))
-
-value-requires-2 : tie.Need-value-requires-2
-value-requires-2 c κs = search needs
 
 add-result : tie.Need-add-result
 add-result c =
@@ -28,9 +22,6 @@ cast-result c =
     let below = thousandths-below (x .args .before .now) (x .args .after .now) (x .pre .0) (x .pre .1) in
     omega (arith, c .before .value .ensures, c .value2 .ensures, below)
 
-returns : tie.Need-returns
-returns c = search needs
-
 pub thousandths-spec : {M : Type 1} → statement M
 thousandths-spec =
-    tie.close (tie.spec value-requires mul-result value-requires-2 add-result cast-result returns)
+    tie.close (tie.spec (λ c κs. search needs) mul-result (λ c κs. search needs) add-result cast-result (λ c. search needs))

@@ -28,9 +28,6 @@ mul-n c =
     let below = value-below 10 s (c .before .before .pre .1) (c .before .before .pre .0) in
     omega (arith, v .inv .2, value-grows (v .n) (drop (v .i) s))
 
-shared-slice-read-n : tie.Need-shared-slice-read-n Inv-loop μ-loop
-shared-slice-read-n c = search needs
-
 sub-n : tie.Need-sub-n Inv-loop μ-loop
 sub-n c =
     let v = c .before .before .loop in
@@ -54,12 +51,6 @@ add-n c =
     let below = value-below 10 s (c .before .before .before .pre .1) (c .before .before .before .pre .0) in
     omega (arith, v .inv .2, value-from s (v .i) (omega arith) (v .n))
 
-add-i : tie.Need-add-i Inv-loop μ-loop
-add-i c = search needs
-
-loop-less : tie.Need-loop-less Inv-loop μ-loop
-loop-less c = search needs
-
 loop-again : tie.Need-loop-again Inv-loop μ-loop
 loop-again c =
     let v = c .before .before .loop in
@@ -81,11 +72,11 @@ value-spec =
     μ-loop
     loop-holds
     mul-n
-    shared-slice-read-n
+    (λ c. search needs)
     sub-n
     cast-n
     add-n
-    add-i
-    loop-less
+    (λ c. search needs)
+    (λ c. search needs)
     loop-again
     returns)

@@ -8,9 +8,6 @@ use Rattle.numbers.proofs.Asked.{holds, fails}
 use Rattle.numbers.proofs.whole.Statement.{statement}
 use Rattle.numbers.proofs.whole.Tie as tie
 
-in-form-requires : tie.Need-in-form-requires
-in-form-requires c κs = search needs
-
 returns : tie.Need-returns
 returns c =
     let s = c .before .before .before .args .text .now in
@@ -27,9 +24,6 @@ returns-2 c =
     let s = c .before .before .before .before .before .args .text .now in
     sym (whole-too-large s (omega (arith, c .before .value .ensures)))
 
-cast-t5 : tie.Need-cast-t5
-cast-t5 c = omega arith
-
 returns-3 : tie.Need-returns-3
 returns-3 c =
     let s = c .before .before .before .before .before .args .text .now in
@@ -38,4 +32,4 @@ returns-3 c =
 
 pub whole-spec : {M : Type 1} → statement M
 whole-spec =
-    tie.close (tie.spec in-form-requires returns value-requires returns-2 cast-t5 returns-3)
+    tie.close (tie.spec (λ c κs. search needs) returns value-requires returns-2 (λ c. omega arith) returns-3)

@@ -23,9 +23,6 @@ put-byte-requires c κs =
     let n = decimal (s .args .n) in
     room-then (p .put-named .ensures) (room-as (sym (append-assoc key n (lineFeed ∷ []))) (s .pre))
 
-same-length : tie.Need-same-length
-same-length c = search needs
-
 returns : tie.Need-returns
 returns c =
     let p = c .before .before .before .before .before .before in
@@ -34,4 +31,4 @@ returns c =
     (both (p .put-named .ensures) (c .before .before .put-byte .ensures))
 
 pub put-line-spec : {M : Type 1} → statement M
-put-line-spec = tie.close (tie.spec put-named-requires put-byte-requires same-length returns)
+put-line-spec = tie.close (tie.spec put-named-requires put-byte-requires (λ c. search needs) returns)

@@ -15,26 +15,11 @@ put-number-requires c κs =
     let t = s .args .thousandths in
     room-first (decimal (t / 1000)) (comma ∷ threeDigits (t % 1000)) (s .pre)
 
-last-digit-requires : tie.Need-last-digit-requires
-last-digit-requires c κs = search needs
-
-last-digit-requires-2 : tie.Need-last-digit-requires-2
-last-digit-requires-2 c κs = search needs
-
-last-digit-requires-3 : tie.Need-last-digit-requires-3
-last-digit-requires-3 c κs = search needs
-
-slice-aggregate-put : tie.Need-slice-aggregate-put
-slice-aggregate-put c = search needs
-
 put-requires : tie.Need-put-requires
 unfolding milliseconds
 put-requires c κs =
     let p = c .before .before .before .before .before .before .before in
     record { fits = room-then (p .put-number .ensures) (p .before .before .before .pre) .fits }
-
-same-length : tie.Need-same-length
-same-length c = search needs
 
 returns : tie.Need-returns
 unfolding milliseconds
@@ -53,10 +38,10 @@ put-milliseconds-spec =
     tie.close
     (tie.spec
     put-number-requires
-    last-digit-requires
-    last-digit-requires-2
-    last-digit-requires-3
-    slice-aggregate-put
+    (λ c κs. search needs)
+    (λ c κs. search needs)
+    (λ c κs. search needs)
+    (λ c. search needs)
     put-requires
-    same-length
+    (λ c. search needs)
     returns)

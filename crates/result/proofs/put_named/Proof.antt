@@ -15,12 +15,9 @@ put-number-requires c κs =
     let p = c .before .before .before in
     room-then (p .put .ensures) (p .before .before .before .before .pre)
 
-same-length : tie.Need-same-length
-same-length c = search needs
-
 returns : tie.Need-returns
 returns c =
     both (c .before .before .before .before .before .before .put .ensures) (c .before .before .put-number .ensures)
 
 pub put-named-spec : {M : Type 1} → statement M
-put-named-spec = tie.close (tie.spec put-requires put-number-requires same-length returns)
+put-named-spec = tie.close (tie.spec put-requires put-number-requires (λ c. search needs) returns)

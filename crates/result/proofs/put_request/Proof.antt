@@ -7,25 +7,16 @@ use Rattle.result.proofs.Putting.{both}
 use Rattle.result.proofs.put_request.Statement.{statement}
 use Rattle.result.proofs.put_request.Tie as tie
 
-slice-aggregate-put-named : tie.Need-slice-aggregate-put-named
-slice-aggregate-put-named c = search needs
-
 put-named-requires : tie.Need-put-named-requires
 put-named-requires c κs =
     let a = c .before .before .before .args in
     omega (arith, request-length (a .request) (a .page) (a .kind) (a .evicted) (a .list) (a .moves))
-
-slice-aggregate-put-named-2 : tie.Need-slice-aggregate-put-named-2
-slice-aggregate-put-named-2 c = search needs
 
 put-named-requires-2 : tie.Need-put-named-requires-2
 put-named-requires-2 c κs =
     let request = c .before .before .before .before in
     let a = request .before .before .before .before .args in
     omega (arith, request-length (a .request) (a .page) (a .kind) (a .evicted) (a .list) (a .moves))
-
-slice-aggregate-put-named-3 : tie.Need-slice-aggregate-put-named-3
-slice-aggregate-put-named-3 c = search needs
 
 put-named-requires-3 : tie.Need-put-named-requires-3
 put-named-requires-3 c κs =
@@ -34,9 +25,6 @@ put-named-requires-3 c κs =
     let a = request .before .before .before .before .args in
     omega (arith, request-length (a .request) (a .page) (a .kind) (a .evicted) (a .list) (a .moves))
 
-slice-aggregate-put-named-4 : tie.Need-slice-aggregate-put-named-4
-slice-aggregate-put-named-4 c = search needs
-
 put-named-requires-4 : tie.Need-put-named-requires-4
 put-named-requires-4 c κs =
     let kind = c .before .before .before .before in
@@ -44,9 +32,6 @@ put-named-requires-4 c κs =
     let request = page .before .before .before .before .before in
     let a = request .before .before .before .before .args in
     omega (arith, request-length (a .request) (a .page) (a .kind) (a .evicted) (a .list) (a .moves))
-
-slice-aggregate-put-named-5 : tie.Need-slice-aggregate-put-named-5
-slice-aggregate-put-named-5 c = search needs
 
 put-named-requires-5 : tie.Need-put-named-requires-5
 put-named-requires-5 c κs =
@@ -57,9 +42,6 @@ put-named-requires-5 c κs =
     let a = request .before .before .before .before .args in
     omega (arith, request-length (a .request) (a .page) (a .kind) (a .evicted) (a .list) (a .moves))
 
-slice-aggregate-put-line : tie.Need-slice-aggregate-put-line
-slice-aggregate-put-line c = search needs
-
 put-line-requires : tie.Need-put-line-requires
 put-line-requires c κs =
     let list = c .before .before .before .before in
@@ -69,9 +51,6 @@ put-line-requires c κs =
     let request = page .before .before .before .before .before in
     let a = request .before .before .before .before .args in
     omega (arith, request-length (a .request) (a .page) (a .kind) (a .evicted) (a .list) (a .moves))
-
-same-length : tie.Need-same-length
-same-length c = search needs
 
 returns : tie.Need-returns
 unfolding requestLine
@@ -91,17 +70,17 @@ pub put-request-spec : {M : Type 1} → statement M
 put-request-spec =
     tie.close
     (tie.spec
-    slice-aggregate-put-named
+    (λ c. search needs)
     put-named-requires
-    slice-aggregate-put-named-2
+    (λ c. search needs)
     put-named-requires-2
-    slice-aggregate-put-named-3
+    (λ c. search needs)
     put-named-requires-3
-    slice-aggregate-put-named-4
+    (λ c. search needs)
     put-named-requires-4
-    slice-aggregate-put-named-5
+    (λ c. search needs)
     put-named-requires-5
-    slice-aggregate-put-line
+    (λ c. search needs)
     put-line-requires
-    same-length
+    (λ c. search needs)
     returns)

@@ -10,9 +10,6 @@ use Rattle.result.proofs.put_sheet.Tie as tie
 put-policy-requires : tie.Need-put-policy-requires
 put-policy-requires c κs = omega (arith, sheet-length (defined (c .before .before .args .o)))
 
-slice-aggregate-put-line : tie.Need-slice-aggregate-put-line
-slice-aggregate-put-line c = search needs
-
 put-line-requires : tie.Need-put-line-requires
 put-line-requires c κs =
     let policy = c .before .before .before .before in
@@ -31,9 +28,6 @@ put-wait-requires c κs =
     let policy = pages .before .before .before .before .before in
     omega (arith, sheet-length (defined (policy .before .before .before .args .o)))
 
-same-length : tie.Need-same-length
-same-length c = search needs
-
 returns : tie.Need-returns
 returns c =
     let tally = c .before .before .before .before .before .before in
@@ -49,9 +43,9 @@ put-sheet-spec =
     tie.close
     (tie.spec
     put-policy-requires
-    slice-aggregate-put-line
+    (λ c. search needs)
     put-line-requires
     put-tally-requires
     put-wait-requires
-    same-length
+    (λ c. search needs)
     returns)

@@ -7,12 +7,6 @@ use Rattle.result.proofs.Putting.{both, room-first, room-then}
 use Rattle.result.proofs.put_wait.Statement.{statement}
 use Rattle.result.proofs.put_wait.Tie as tie
 
-slice-aggregate-put : tie.Need-slice-aggregate-put
-slice-aggregate-put c = search needs
-
-put-requires : tie.Need-put-requires
-put-requires c κs = search needs
-
 put-milliseconds-requires : tie.Need-put-milliseconds-requires
 put-milliseconds-requires c κs =
     let p = c .before .before .before in
@@ -25,9 +19,6 @@ put-byte-requires c κs =
     let p = m .before .before .before .before in
     room-then (m .put-milliseconds .ensures) (room-then (p .put .ensures) (p .before .before .before .before .pre))
 
-same-length : tie.Need-same-length
-same-length c = search needs
-
 returns : tie.Need-returns
 returns c =
     let m = c .before .before .before .before .before .before in
@@ -38,9 +29,9 @@ pub put-wait-spec : {M : Type 1} → statement M
 put-wait-spec =
     tie.close
     (tie.spec
-    slice-aggregate-put
-    put-requires
+    (λ c. search needs)
+    (λ c κs. search needs)
     put-milliseconds-requires
     put-byte-requires
-    same-length
+    (λ c. search needs)
     returns)

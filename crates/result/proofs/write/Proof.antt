@@ -14,9 +14,6 @@ use Rattle.result.proofs.write.Tie as tie
 unknown : {answer test : Bool} → answer ≡ test → not answer ≡ true → test ≡ false
 unknown said taken = sym said ∙ not-true _ taken
 
-known-policy-requires : tie.Need-known-policy-requires
-known-policy-requires c κs = search needs
-
 returns : tie.Need-returns
 returns c = sheet-policy _ _ (search unknown)
 
@@ -33,9 +30,6 @@ put-sheet-requires c κs =
     let most = result-fits (defined (s .args .outcome)) (omega arith) in
     omega arith
 
-same-length : tie.Need-same-length
-same-length c = search needs
-
 returns-3 : tie.Need-returns-3
 returns-3 c =
     let e = c .before .before .before .before in
@@ -47,4 +41,4 @@ returns-3 c =
 pub write-spec : {M : Type 1} → statement M
 write-spec =
     tie.close
-    (tie.spec known-policy-requires returns returns-2 put-sheet-requires same-length returns-3)
+    (tie.spec (λ c κs. search needs) returns returns-2 put-sheet-requires (λ c. search needs) returns-3)

@@ -14,16 +14,10 @@ returns c =
     let a = c .before .before .args in
     text-short (refusedSheet (a .number) (a .line)) (a .out .now) (c .if1 .taken)
 
-slice-aggregate-put-line : tie.Need-slice-aggregate-put-line
-slice-aggregate-put-line c = search needs
-
 put-line-requires : tie.Need-put-line-requires
 put-line-requires c κs =
     let s = c .before .before .before .before in
     omega (arith, count-length (bytes "refused=") (s .args .number) (omega arith))
-
-slice-aggregate-put-line-2 : tie.Need-slice-aggregate-put-line-2
-slice-aggregate-put-line-2 c = search needs
 
 put-line-requires-2 : tie.Need-put-line-requires-2
 put-line-requires-2 c κs =
@@ -31,9 +25,6 @@ put-line-requires-2 c κs =
     let first = count-length (bytes "refused=") (s .args .number) (omega arith) in
     let second = count-length (bytes "line=") (s .args .line) (omega arith) in
     omega arith
-
-same-length : tie.Need-same-length
-same-length c = search needs
 
 returns-2 : tie.Need-returns-2
 unfolding refusedSheet
@@ -49,9 +40,9 @@ write-refusal-spec =
     tie.close
     (tie.spec
     returns
-    slice-aggregate-put-line
+    (λ c. search needs)
     put-line-requires
-    slice-aggregate-put-line-2
+    (λ c. search needs)
     put-line-requires-2
-    same-length
+    (λ c. search needs)
     returns-2)

@@ -19,9 +19,6 @@ put-request-requires c κs =
     (omega arith) (omega arith) (omega arith) (omega arith) (omega arith) (omega arith) in
     omega arith
 
-same-length : tie.Need-same-length
-same-length c = search needs
-
 returns-2 : tie.Need-returns-2
 returns-2 c =
     let e = c .before .before .before .before in
@@ -30,4 +27,4 @@ returns-2 c =
     (c .before .before .put-request .ensures)
 
 pub write-request-spec : {M : Type 1} → statement M
-write-request-spec = tie.close (tie.spec returns put-request-requires same-length returns-2)
+write-request-spec = tie.close (tie.spec returns put-request-requires (λ c. search needs) returns-2)

@@ -3,12 +3,12 @@ use Prim.Native.Nat.{_-_}
 use native.Mathlib.Omega.{arith}
 use lib.ListN.{length}
 use borrow.Author.Needs.{needs}
-use Rattle.scoring.proofs.Lines.{Midway, begins, goes-on, ends}
+use Rattle.scoring.proofs.Lines.{LedgerMidway, begins, goes-on, ends}
 use Rattle.scoring.proofs.put_requests.Statement.{statement}
 use Rattle.scoring.proofs.put_requests.Tie as tie
 
 abbrev Inv-loop : tie.InvT-loop
-Inv-loop out₀ at pages answers next₀ i₀ out next i = Midway out₀ at pages answers i out next
+Inv-loop out₀ at pages answers next₀ i₀ out next i = LedgerMidway out₀ at pages answers i out next
 
 abbrev μ-loop : tie.MeasureT-loop
 μ-loop out₀ at pages answers next₀ i₀ out next i = length pages - i

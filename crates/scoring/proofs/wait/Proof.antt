@@ -7,8 +7,5 @@ use Rattle.scoring.proofs.wait.Tie as tie
 mul-result : tie.Need-mul-result
 mul-result c = record { fits = wait-fits _ _ (c .fits .misses .fits) (c .fits .cost .fits) }
 
-returns : tie.Need-returns
-returns c = search needs
-
 pub wait-spec : {M : Type 1} → statement M
-wait-spec = tie.close (tie.spec mul-result returns)
+wait-spec = tie.close (tie.spec mul-result (λ c. search needs))

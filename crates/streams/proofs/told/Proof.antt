@@ -1,7 +1,7 @@
 -- Each answer tells what it says.
 use native.Mathlib.Omega.{arith}
 use borrow.Author.Needs.{needs}
-use Rattle.streams.specs.Reads.{IsFailure, Tells}
+use Rattle.streams.specs.Reads.{IsFailure, ReadTells}
 use Rattle.streams.specs.declared.Got.{Got}
 use Rattle.streams.specs.declared.Got.the-variants.{Interrupted, Failed}
 use Rattle.streams.proofs.Answers.{counted, tells-end, tells-bytes, tells-failure}
@@ -22,7 +22,7 @@ bytes c =
     (λ none. c .if2 .taken (omega (arith, none)))
 
 -- An answer that is not 0 and moved nothing is a failure, of either kind.
-failure : (c : tie.Else2) (r : Got) → IsFailure r → Tells (c .before .before .before .before .args .got) r
+failure : (c : tie.Else2) (r : Got) → IsFailure r → ReadTells (c .before .before .before .before .args .got) r
 failure c r is-failure =
     let after-count = c .before in
     let at-entry = after-count .before .before .before in

@@ -6,9 +6,6 @@ use Rattle.text.proofs.Text.{same-starts, lengths-differ}
 use Rattle.text.proofs.equal.Statement.{statement}
 use Rattle.text.proofs.equal.Tie as tie
 
-starts-with-requires : tie.Need-starts-with-requires
-starts-with-requires c κs = search needs
-
 returns : tie.Need-returns
 returns c =
     let a = c .before .before .before .before .args in
@@ -20,4 +17,4 @@ returns-2 c =
     ne-eqb _ _ (c .if1 .left) ∙ sym (lengths-differ (a .bytes .now) (a .other .now) (c .if1 .left))
 
 pub equal-spec : {M : Type 1} → statement M
-equal-spec = tie.close (tie.spec starts-with-requires returns returns-2)
+equal-spec = tie.close (tie.spec (λ c κs. search needs) returns returns-2)

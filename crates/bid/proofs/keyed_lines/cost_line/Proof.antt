@@ -7,18 +7,6 @@ use Rattle.bid.proofs.Readings.{value-inside, no-line-read, good-read, 
 use Rattle.bid.proofs.keyed_lines.cost_line.Statement.{statement}
 use Rattle.bid.proofs.keyed_lines.cost_line.Tie as tie
 
-slice-aggregate-under-key : tie.Need-slice-aggregate-under-key
-slice-aggregate-under-key c = search needs
-
-under-key-requires : tie.Need-under-key-requires
-under-key-requires c κs = search needs
-
-enum-known-start : tie.Need-enum-known-start
-enum-known-start c = search needs
-
-enum-told : tie.Need-enum-told
-enum-told c = search needs
-
 returns : tie.Need-returns
 unfolding costLine
 returns c = no-line-read (c .before .before .under-key .ensures) _ (c .enum-told .given .1)
@@ -34,15 +22,6 @@ part-miss-cost-start c =
 part-miss-cost-end : tie.Need-part-miss-cost-end
 part-miss-cost-end c =
     let i = value-inside (c .before .before .before .under-key .ensures) (c .before .start .given .1) in search needs
-
-miss-cost-requires : tie.Need-miss-cost-requires
-miss-cost-requires c κs = search needs
-
-enum-known-cost : tie.Need-enum-known-cost
-enum-known-cost c = search needs
-
-enum-told-2 : tie.Need-enum-told-2
-enum-told-2 c = search needs
 
 returns-2 : tie.Need-returns-2
 unfolding costLine
@@ -67,17 +46,17 @@ pub cost-line-spec : {M : Type 1} → statement M
 cost-line-spec =
     tie.close
     (tie.spec
-    slice-aggregate-under-key
-    under-key-requires
-    enum-known-start
-    enum-told
+    (λ c. search needs)
+    (λ c κs. search needs)
+    (λ c. search needs)
+    (λ c. search needs)
     returns
     sub-miss-cost
     part-miss-cost-start
     part-miss-cost-end
-    miss-cost-requires
-    enum-known-cost
-    enum-told-2
+    (λ c κs. search needs)
+    (λ c. search needs)
+    (λ c. search needs)
     returns-2
     add-t12
     returns-3)

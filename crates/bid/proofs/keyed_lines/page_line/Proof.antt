@@ -18,18 +18,6 @@ use Rattle.bid.proofs.keyed_lines.page_line.Tie as tie
 abbrev counted : List ℕ → Bool → Value
 counted s few = if few then whole s else wrong tooManyPages
 
-slice-aggregate-under-key : tie.Need-slice-aggregate-under-key
-slice-aggregate-under-key c = search needs
-
-under-key-requires : tie.Need-under-key-requires
-under-key-requires c κs = search needs
-
-enum-known-start : tie.Need-enum-known-start
-enum-known-start c = search needs
-
-enum-told : tie.Need-enum-told
-enum-told c = search needs
-
 returns : tie.Need-returns
 unfolding pageLine
 returns c = search no-line-read
@@ -55,15 +43,6 @@ part-whole-end : tie.Need-part-whole-end
 part-whole-end c =
     let found = c .before .before in
     let i = value-inside (found .before .before .under-key .ensures) (found .start .given .1) in search needs
-
-whole-requires : tie.Need-whole-requires
-whole-requires c κs = search needs
-
-enum-known-page : tie.Need-enum-known-page
-enum-known-page c = search needs
-
-enum-told-2 : tie.Need-enum-told-2
-enum-told-2 c = search needs
 
 returns-3 : tie.Need-returns-3
 unfolding pageLine
@@ -92,18 +71,18 @@ pub page-line-spec : {M : Type 1} → statement M
 page-line-spec =
     tie.close
     (tie.spec
-    slice-aggregate-under-key
-    under-key-requires
-    enum-known-start
-    enum-told
+    (λ c. search needs)
+    (λ c κs. search needs)
+    (λ c. search needs)
+    (λ c. search needs)
     returns
     returns-2
     sub-whole
     part-whole-start
     part-whole-end
-    whole-requires
-    enum-known-page
-    enum-told-2
+    (λ c κs. search needs)
+    (λ c. search needs)
+    (λ c. search needs)
     returns-3
     add-t11
     returns-4)

@@ -7,18 +7,6 @@ use Rattle.bid.proofs.Readings.{value-inside, no-line-read, good-read, 
 use Rattle.bid.proofs.keyed_lines.policy_line.Statement.{statement}
 use Rattle.bid.proofs.keyed_lines.policy_line.Tie as tie
 
-slice-aggregate-under-key : tie.Need-slice-aggregate-under-key
-slice-aggregate-under-key c = search needs
-
-under-key-requires : tie.Need-under-key-requires
-under-key-requires c κs = search needs
-
-enum-known-start : tie.Need-enum-known-start
-enum-known-start c = search needs
-
-enum-told : tie.Need-enum-told
-enum-told c = search needs
-
 returns : tie.Need-returns
 unfolding policyLine
 returns c = no-line-read (c .before .before .under-key .ensures) _ (c .enum-told .given .1)
@@ -35,27 +23,15 @@ part-policy-value-end : tie.Need-part-policy-value-end
 part-policy-value-end c =
     let i = value-inside (c .before .before .before .under-key .ensures) (c .before .start .given .1) in search needs
 
-policy-value-requires : tie.Need-policy-value-requires
-policy-value-requires c κs = search needs
-
-enum-known-policy : tie.Need-enum-known-policy
-enum-known-policy c = search needs
-
 add-t16 : tie.Need-add-t16
 add-t16 c =
     let found = c .before .before .before .before .before .before in
     let i = value-inside (found .before .before .under-key .ensures) (found .start .given .1) in search needs
 
-enum-told-2 : tie.Need-enum-told-2
-enum-told-2 c = search needs
-
 add-t17 : tie.Need-add-t17
 add-t17 c =
     let found = c .before .before .before .before .before in
     let i = value-inside (found .before .before .under-key .ensures) (found .start .given .1) in search needs
-
-enum-told-3 : tie.Need-enum-told-3
-enum-told-3 c = search needs
 
 returns-2 : tie.Need-returns-2
 unfolding policyLine
@@ -83,20 +59,20 @@ pub policy-line-spec : {M : Type 1} → statement M
 policy-line-spec =
     tie.close
     (tie.spec
-    slice-aggregate-under-key
-    under-key-requires
-    enum-known-start
-    enum-told
+    (λ c. search needs)
+    (λ c κs. search needs)
+    (λ c. search needs)
+    (λ c. search needs)
     returns
     sub-policy-value
     part-policy-value-start
     part-policy-value-end
-    policy-value-requires
-    enum-known-policy
+    (λ c κs. search needs)
+    (λ c. search needs)
     add-t16
-    enum-told-2
+    (λ c. search needs)
     add-t17
-    enum-told-3
+    (λ c. search needs)
     returns-2
     returns-3
     returns-4)

@@ -23,23 +23,11 @@ by-tests s e f g = rw (sym e, sym f, sym g) refl
 returns : tie.Need-returns
 returns c = let s = c .before .before .args .text .now in by-tests s (same-starts s [] (c .if1 .taken)) refl refl
 
-slice-aggregate-equal : tie.Need-slice-aggregate-equal
-slice-aggregate-equal c = search needs
-
-equal-requires : tie.Need-equal-requires
-equal-requires c κs = search needs
-
 returns-2 : tie.Need-returns-2
 returns-2 c =
     let full = c .before .before .before in
     let s = full .before .before .args .text .now in
     by-tests s (lengths-differ s [] (full .if1 .left)) (sym (c .before .equal .ensures) ∙ c .if2 .taken) refl
-
-slice-aggregate-equal-2 : tie.Need-slice-aggregate-equal-2
-slice-aggregate-equal-2 c = search needs
-
-equal-requires-2 : tie.Need-equal-requires-2
-equal-requires-2 c κs = search needs
 
 returns-3 : tie.Need-returns-3
 returns-3 c =
@@ -66,10 +54,10 @@ policy-value-spec =
     tie.close
     (tie.spec
     returns
-    slice-aggregate-equal
-    equal-requires
+    (λ c. search needs)
+    (λ c κs. search needs)
     returns-2
-    slice-aggregate-equal-2
-    equal-requires-2
+    (λ c. search needs)
+    (λ c κs. search needs)
     returns-3
     returns-4)

@@ -11,15 +11,6 @@ closed : (c : tie.After-end)
     → let a = c .before .before .before .before .before .args in ClosedAt (a .sheet .now) (a .at) (c .end .given .0 .0)
 closed c = closed-line _ _ _ (sym (c .before .before .line-at .ensures) ∙ c .end .given .1)
 
-line-at-requires : tie.Need-line-at-requires
-line-at-requires c κs = search needs
-
-enum-known-end : tie.Need-enum-known-end
-enum-known-end c = search needs
-
-enum-told : tie.Need-enum-told
-enum-told c = search needs
-
 returns : tie.Need-returns
 returns c = no-line _ _ _ (missing-line _ _ (sym (c .before .before .line-at .ensures) ∙ c .enum-told .given .1))
 
@@ -31,9 +22,6 @@ part-starts-with-start c = let h = closed (c .before) in search needs
 
 part-starts-with-end : tie.Need-part-starts-with-end
 part-starts-with-end c = let h = closed (c .before) in search needs
-
-starts-with-requires : tie.Need-starts-with-requires
-starts-with-requires c κs = search needs
 
 add-t13 : tie.Need-add-t13
 add-t13 c =
@@ -56,14 +44,14 @@ pub under-key-spec : {M : Type 1} → statement M
 under-key-spec =
     tie.close
     (tie.spec
-    line-at-requires
-    enum-known-end
-    enum-told
+    (λ c κs. search needs)
+    (λ c. search needs)
+    (λ c. search needs)
     returns
     sub-starts-with
     part-starts-with-start
     part-starts-with-end
-    starts-with-requires
+    (λ c κs. search needs)
     add-t13
     returns-2
     returns-3)
