@@ -15,23 +15,33 @@ use Rattle.cart.proofs.Words.{passing-header}
 use Rattle.cart.proofs.demote.Statement.{statement}
 use Rattle.cart.proofs.demote.Tie as tie
 
+-- The places that are looked back to.
+abbrev at-start : tie.After-t1-at-target → tie.Start
+at-start c = c .before .before .before .before .before .before
+
+abbrev in-then1 : tie.After-struct-known2 → tie.Then1
+in-then1 c = c .before .before .before .before .before
+
+abbrev in-else1 : tie.After-struct-known3 → tie.Else1
+in-else1 c = c .before .before .before .before .before
+
 -- The test that the code has made.
-tested : (c : tie.After-t1-at-target) (d : Directory) → Holds d (c .before .before .before .before .before .before .args .dir .now)
+tested : (c : tie.After-t1-at-target) (d : Directory) → Holds d (at-start c .args .dir .now)
     → t1AtTarget d ≡ c .t1-at-target .result
 tested c d is = sym (c .t1-at-target .ensures d is)
 
 demote-head-requires : tie.Need-demote-head-requires
 demote-head-requires c κs =
     let t = c .before in
-    let s = t .before .before .before .before .before .before .before in
+    let s = at-start (t .before) in
     let p = s .pre .1 .0 in
     let some = at-target-some (p .dir) (tested (t .before) (p .dir) (p .shown) ∙ t .if1 .taken) in
     (s .pre .0, omega (arith, passing-header p, some))
 
 sub-short : tie.Need-sub-t17
 sub-short c =
-    let t = c .before .before .before .before .before in
-    let s = t .before .before .before .before .before .before .before in
+    let t = in-then1 c in
+    let s = at-start (t .before) in
     let p = s .pre .1 .0 in
     let some = at-target-some (p .dir) (tested (t .before) (p .dir) (p .shown) ∙ t .if1 .taken) in
     short-counted (p .accounts) (some-front (p .dir .t1) some) (stands (frontOf (p .dir .t1)) (s .pre .1 .1 (p .dir) (p .shown)) .1)
@@ -39,20 +49,20 @@ sub-short c =
 demote-head-requires-2 : tie.Need-demote-head-requires-2
 demote-head-requires-2 c κs =
     let t = c .before in
-    let s = t .before .before .before .before .before .before .before in
+    let s = at-start (t .before) in
     let p = s .pre .1 .0 in
     let some = under-target-some (p .accounts) (tested (t .before) (p .dir) (p .shown) ∙ t .if1 .left) in
     (s .pre .0, omega (arith, passing-header p, some))
 
 sub-long : tie.Need-sub-t21
 sub-long c =
-    let t = c .before .before .before .before .before in
-    let p = t .before .before .before .before .before .before .before .pre .1 .0 in
+    let t = in-else1 c in
+    let p = at-start (t .before) .pre .1 .0 in
     long-counted (p .accounts) (under-target-some (p .accounts) (tested (t .before) (p .dir) (p .shown) ∙ t .if1 .left))
 
 returns : tie.Need-returns
 returns c h holds =
-    let t = c .before .before .before .before .before in
+    let t = in-then1 c in
     let l = h .dir .t1 in
     let test = tested (t .before) (h .dir) (holds .shown) ∙ t .if1 .taken in
     let out = c .before .before .before .demote-head .ensures (h .dir) (holds .shown) in
@@ -60,10 +70,10 @@ returns c h holds =
 
 returns-2 : tie.Need-returns-2
 returns-2 c h holds =
-    let t = c .before .before .before .before .before in
+    let t = in-else1 c in
     let l = h .dir .t2 in
     let test = tested (t .before) (h .dir) (holds .shown) ∙ t .if1 .left in
-    let p = t .before .before .before .before .before .before .before .pre .1 .0 in
+    let p = at-start (t .before) .pre .1 .0 in
     let some = under-target-some (p .accounts) (tested (t .before) (p .dir) (p .shown) ∙ t .if1 .left) in
     let out = c .before .before .before .demote-head2 .ensures (h .dir) (holds .shown) in
     demotes-T2 h (frontOf l) (dropHead l) holds (out .0) test

@@ -8,10 +8,14 @@ use Rattle.cart.proofs.Words.{head-demoted}
 use Rattle.cart.proofs.demote_head.Statement.{statement}
 use Rattle.cart.proofs.demote_head.Tie as tie
 
+-- The places that are looked back to.
+abbrev at-start : tie.After-start-of → tie.Start
+at-start c = c .before .before .before
+
 -- The head stands within the words.
-inside : (c : tie.After-start-of) → c .start-of .result + 2 ≤ length (c .before .before .before .args .dir .now)
+inside : (c : tie.After-start-of) → c .start-of .result + 2 ≤ length (at-start c .args .dir .now)
 inside c =
-    let s = c .before .before .before in
+    let s = at-start c in
     head-inside (omega (arith, s .pre .1 .0)) (s .pre .1 .1) (c .start-of .ensures) (s .pre .0)
 
 returns : tie.Need-returns
@@ -19,7 +23,7 @@ returns c =
     let m = c .before .before in
     let f = m .before .before in
     let at = f .before .before .before in
-    let s = at .before .before .before in
+    let s = at-start at in
     head-demoted (s .pre .1 .0) (s .pre .1 .1) (at .start-of .ensures) (f .demoted .ensures) (m .move-head .ensures)
 
 pub demote-head-spec : {M : Type 1} → statement M

@@ -15,30 +15,43 @@ use Rattle.cart.proofs.Evicting.{stops, begins-passing, begins-shown}
 use Rattle.cart.proofs.evict.Statement.{statement}
 use Rattle.cart.proofs.evict.Tie as tie
 
+-- The places that are looked back to.
+abbrev after-slice-known : tie.After-slice-known3 → tie.After-slice-known
+after-slice-known c = c .before .before
+
+abbrev at-start : tie.After-wide → tie.Start
+at-start c = after-slice-known (c .before .before) .before
+
+abbrev after-first-pass : tie.After-second-pass-arg → tie.After-first-pass
+after-first-pass c = c .before .before .before
+
+abbrev after-second-pass : tie.After-demote-arg → tie.After-second-pass
+after-second-pass c = c .before .before .before
+
 -- What is counted is the L pages of T1 and T2.
-counts : (c : tie.After-count) → let w = c .before .before .before .before .before .before .args .dir .now in
+counts : (c : tie.After-count) → let w = at-start (c .before) .args .dir .now in
     OfEntries w 8 (nT1 w + nT2 w) (λ l. c .count .result ≡ total (ofFlag 2) l)
 counts c P R l parts first many = c .count .ensures .1 P R l parts first (many ∙ sym (c .before .wide .ensures))
 
 first-pass-requires : tie.Need-first-pass-requires
 first-pass-requires c κs =
     let n = c .before in
-    let p = begins-passing (n .before .before .before .before .before .before .pre) (n .count .result) (counts n) in
+    let p = begins-passing (at-start (n .before) .pre) (n .count .result) (counts n) in
     (passing-room p, p)
 
 second-pass-requires : tie.Need-second-pass-requires
-second-pass-requires c κs = let p = c .before .before .before .first-pass .ensures .passing in (passing-room p, p)
+second-pass-requires c κs = let p = after-first-pass c .first-pass .ensures .passing in (passing-room p, p)
 
 demote-requires : tie.Need-demote-requires
-demote-requires c κs = let e = c .before .before .before .second-pass .ensures in (passing-room (e .0 .passing), (e .0 .passing, e .1))
+demote-requires c κs = let e = after-second-pass c .second-pass .ensures in (passing-room (e .0 .passing), (e .0 .passing, e .1))
 
 returns : tie.Need-returns
 unfolding evict
 returns c =
-    let second = c .before .before .before .before .before .before in
-    let first = second .before .before .before .before in
+    let second = after-second-pass (c .before .before .before) in
+    let first = after-first-pass (second .before) in
     let n = first .before .before in
-    let full = n .before .before .before .before .before .before .pre in
+    let full = at-start (n .before) .pre in
     c .before .before .demote .ensures _
     (passes-end (stops full) (begins-shown full (n .count .result) (counts n))
     (first .first-pass .ensures .ends) (second .second-pass .ensures .0 .ends))
@@ -48,10 +61,10 @@ evict-spec =
     tie.close
     (tie.spec
     (λ c. omega (arith, filled (c .before .before .pre) .room))
-    (λ c. omega (arith, filled (c .before .before .before .pre) .room))
-    (λ c. omega (arith, filled (c .before .before .before .pre) .room))
+    (λ c. omega (arith, filled (after-slice-known c .before .pre) .room))
+    (λ c. omega (arith, filled (after-slice-known c .before .pre) .room))
     (λ c κs. search needs)
-    (λ c κs. omega (arith, filled (c .before .before .before .before .before .pre) .room))
+    (λ c κs. omega (arith, filled (at-start c .pre) .room))
     (λ c. search needs)
     first-pass-requires
     second-pass-requires

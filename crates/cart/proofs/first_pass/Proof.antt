@@ -26,47 +26,60 @@ Inv-loop dir₀ now₀ f₀ dir now f =
 abbrev μ-loop : tie.MeasureT-loop
 μ-loop dir₀ now₀ f₀ dir now f = 2048 - now .hand .moves
 
+-- The places that are looked back to.
+abbrev in-then1 : tie.After-t2-head-to-t1-arg Inv-loop μ-loop → tie.Then1 Inv-loop μ-loop
+in-then1 c = c .before .before .before
+
+abbrev after-t2-head-to-t1 : tie.After-raise-arg Inv-loop μ-loop → tie.After-t2-head-to-t1 Inv-loop μ-loop
+after-t2-head-to-t1 c = c .before .before .before
+
+abbrev at-loop : tie.After-raise Inv-loop μ-loop → tie.At-loop Inv-loop μ-loop
+at-loop c = in-then1 (after-t2-head-to-t1 (c .before) .before) .before .before
+
+abbrev after-raise : tie.After-struct-known2 Inv-loop μ-loop → tie.After-raise Inv-loop μ-loop
+after-raise c = c .before .before .before .before
+
 -- T2's head has its bit set.
 set : (c : tie.Then1 Inv-loop μ-loop) (d : Directory) → Holds d (c .before .before .loop .dir) → frontOf (d .t2) .bit ≡ true
 set c d is = sym (c .before .bit .ensures (frontOf (d .t2)) (c .before .before .loop .inv .2 d is)) ∙ c .if1 .taken
 
 -- A turn of the loop is one look: the move of T2's head to T1's tail, and then "raise q".
-moved : (c : tie.After-t2-head-to-t1 Inv-loop μ-loop) → let l = c .before .before .before .before .before .before .loop in
+moved : (c : tie.After-t2-head-to-t1 Inv-loop μ-loop) → let l = in-then1 (c .before) .before .before .loop in
     Moved Holds Cart.firstLook (Cart.raise (l .now .short .0)) (l .dir) (l .now) (c .t2-head-to-t1 .last .0)
     (afterMove (l .now .short) (l .now .long) (l .now .hand .cleared + 1) (l .now))
 moved c =
-    let t = c .before .before .before .before in
+    let t = in-then1 (c .before) in
     first-looks (t .before .before .loop .inv .0) (set t)
     (λ d is. c .t2-head-to-t1 .ensures d _ _ is (set-front (d .t2) (set t d is)))
 
 looked : (c : tie.After-raise Inv-loop μ-loop)
-    → let l = c .before .before .before .before .before .before .before .before .before .before .loop in
+    → let l = at-loop c .loop in
     Looked Holds Cart.firstLook (l .dir) (l .now) (c .raise .last .0)
     (afterMove (l .now .short) (l .now .long) (l .now .hand .cleared + 1) (l .now))
-looked c = moved (c .before .before .before .before) .looked (c .raise .last .0) (c .raise .ensures)
+looked c = moved (after-t2-head-to-t1 (c .before)) .looked (c .raise .last .0) (c .raise .ensures)
 
 loop-holds : tie.Need-loop-holds Inv-loop μ-loop
 loop-holds c = (c .before .before .before .pre .1, begins, c .head-flags .ensures, refl)
 
 t2-head-to-t1-requires : tie.Need-t2-head-to-t1-requires Inv-loop μ-loop
 t2-head-to-t1-requires c κs =
-    let t = c .before .before .before in
+    let t = in-then1 c in
     let p = t .before .before .loop .inv .0 in
     (passing-room p, t2-some p (set-front _ (set t (p .dir) (p .shown))))
 
 raise-requires : tie.Need-raise-requires Inv-loop μ-loop
 raise-requires c κs =
-    let p = moved (c .before .before .before) .between in
+    let p = moved (after-t2-head-to-t1 c) .between in
     (passing-room p, omega (arith, p .accounts, counts-cached (p .accounts), passing-header p))
 
 head-flags-requires-2 : tie.Need-head-flags-requires-2 Inv-loop μ-loop
-head-flags-requires-2 c κs = (passing-room (looked (c .before .before .before .before .before) .passing), omega arith)
+head-flags-requires-2 c κs = (passing-room (looked (after-raise (c .before)) .passing), omega arith)
 
 loop-again : tie.Need-loop-again Inv-loop μ-loop
 loop-again c =
-    let r = c .before .before .before .before .before .before in
+    let r = after-raise (c .before .before) in
     let l = looked r in
-    let before = r .before .before .before .before .before .before .before .before .before .before .loop .inv in
+    let before = at-loop r .loop .inv in
     (l .passing, goes-on (before .1) l, c .head-flags2 .ensures, search needs)
 
 returns : tie.Need-returns Inv-loop μ-loop
@@ -90,9 +103,9 @@ first-pass-spec =
     t2-head-to-t1-requires
     raise-requires
     (λ c. omega (arith, looked (c .before .before .before) .passing .accounts))
-    (λ c. omega (arith, looked (c .before .before .before .before) .passing .accounts))
+    (λ c. omega (arith, looked (after-raise c) .passing .accounts))
     head-flags-requires-2
-    (λ c. omega (arith, looked (c .before .before .before .before .before .before) .passing .accounts))
+    (λ c. omega (arith, looked (after-raise (c .before .before)) .passing .accounts))
     loop-again
     (λ c. search needs)
     returns)

@@ -8,10 +8,14 @@ use Rattle.cart.proofs.Words.{head-flags-none}
 use Rattle.cart.proofs.head_flags.Statement.{statement}
 use Rattle.cart.proofs.head_flags.Tie as tie
 
+-- The places that are looked back to.
+abbrev at-start : tie.After-start-of → tie.Start
+at-start c = c .before .before .before .before
+
 -- A head that is there stands within the words.
-inside : (c : tie.After-start-of) → c .start-of .result + 2 ≤ length (c .before .before .before .before .args .dir .now)
+inside : (c : tie.After-start-of) → c .start-of .result + 2 ≤ length (at-start c .args .dir .now)
 inside c =
-    let s = c .before .before .before .before in
+    let s = at-start c in
     head-inside {i = s .args .i} (omega (arith, s .pre .1)) (omega arith) (c .start-of .ensures) (s .pre .0)
 
 returns : tie.Need-returns
@@ -19,7 +23,7 @@ returns c d is = head-flags-none (c .before .before .before .args .i) d is (omeg
 
 returns-2 : tie.Need-returns-2
 returns-2 c d is =
-    let i = c .before .before .before .before .before .args .i in
+    let i = at-start (c .before) .args .i in
     flags-read {i = i} (omega arith) (omega arith) (c .before .start-of .ensures) d is
 
 pub head-flags-spec : {M : Type 1} → statement M

@@ -14,57 +14,67 @@ use Rattle.cart.proofs.Placed.{from-B1, from-B2, new-page, unchanged, r
 use Rattle.cart.proofs.place.Statement.{statement}
 use Rattle.cart.proofs.place.Tie as tie
 
+-- The places that are looked back to.
+abbrev at-start : tie.After-come-back → tie.Start
+at-start c = c .before .before .before
+
+abbrev after-come-back : tie.After-slice-known2 → tie.After-come-back
+after-come-back c = c .before .before
+
+abbrev after-trim : tie.After-place-new-arg → tie.After-trim
+after-trim c = c .before .before .before
+
 -- What the page that comes back leaves of the directory that the words held.
-returned : (c : tie.After-come-back) → let a = c .before .before .before .args in
+returned : (c : tie.After-come-back) → let a = at-start c .args in
     let w = a .dir .now in
     let r = c .come-back in
     Returned (decode w) (a .page) (newLong (a .page)) T1 (a .short .0) (a .long .0) w (r .last .0) (r .result)
 returned c =
-    let s = c .before .before .before in
+    let s = at-start c in
     c .come-back .ensures (decode (s .args .dir .now)) (newLong (s .args .page)) _ _ (s .pre .0 .is) refl refl refl refl
 
 raise-requires : tie.Need-raise-requires
 raise-requires c κs =
     let t = c .before in
-    let s = t .before .before .before .before .before .before in
-    raise-ready (returned (t .before .before .before)) (t .if1 .taken) (s .pre .0) (s .pre .1)
+    let s = at-start (after-come-back (t .before)) in
+    raise-ready (returned (after-come-back (t .before))) (t .if1 .taken) (s .pre .0) (s .pre .1)
 
 returns : tie.Need-returns
 returns c h is short long =
     let r = c .before .before in
-    let b = r .before .before .before .before .before in
+    let b = after-come-back (r .before .before .before) in
     from-B2 (b .come-back .ensures (h .dir) (newLong _) _ _ is refl refl short long) (r .before .before .if1 .taken)
     (λ d on. rw short at (r .raise .ensures d on))
 
 trim-requires : tie.Need-trim-requires
 trim-requires c κs =
     let t = c .before in
-    let b = t .before .before .before .before in
-    subst Freed (sym (unchanged (returned b) (t .if2 .taken))) (b .before .before .before .pre .0)
+    let b = after-come-back (t .before .before) in
+    subst Freed (sym (unchanged (returned b) (t .if2 .taken))) (at-start b .pre .0)
 
 place-new-requires : tie.Need-place-new-requires
 place-new-requires c κs =
-    let t = c .before .before .before .before .before in
-    let b = t .before .before .before .before in
-    let f = b .before .before .before .pre .0 in
-    let w = b .before .before .before .args .dir .now in
+    let t = after-trim c .before .before in
+    let b = after-come-back (t .before .before) in
+    let f = at-start b .pre .0 in
+    let w = at-start b .args .dir .now in
     let d = decode w in
     let h = header d w (f .is) in
     let same = unchanged (returned b) (t .if2 .taken) in
-    room-for-new d (Cart.trim d) (c .before .before .before .trim .ensures d (f .is ∙ sym same))
+    room-for-new d (Cart.trim d) (after-trim c .trim .ensures d (f .is ∙ sym same))
     (trim-fits d (omega (arith, f .one-free)) (omega (arith, f .history-most))) (omega (arith, f .c-most))
 
 returns-2 : tie.Need-returns-2
 returns-2 c h is short long =
-    let trimmed = c .before .before .before .before .before .before in
+    let trimmed = after-trim (c .before .before .before) in
     let t = trimmed .before .before in
-    let b = t .before .before .before .before in
+    let b = after-come-back (t .before .before) in
     new-page (b .come-back .ensures (h .dir) (newLong _) _ _ is refl refl short long) (t .if2 .taken)
     (λ same. c .before .before .place-new .ensures (Cart.trim (h .dir)) (trimmed .trim .ensures (h .dir) (is ∙ sym same)))
 
 returns-3 : tie.Need-returns-3
 returns-3 c h is short long =
-    let b = c .before .before .before .before in
+    let b = after-come-back (c .before .before) in
     from-B1 (b .come-back .ensures (h .dir) (newLong _) _ _ is refl refl short long) (c .before .if1 .left) (c .if2 .left)
 
 pub place-spec : {M : Type 1} → statement M

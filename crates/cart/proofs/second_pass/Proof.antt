@@ -24,6 +24,13 @@ Inv-loop dir₀ now₀ f₀ dir now f =
 abbrev μ-loop : tie.MeasureT-loop
 μ-loop dir₀ now₀ f₀ dir now f = 2048 - now .hand .moves
 
+-- The places that are looked back to.
+abbrev at-loop : tie.After-turn Inv-loop μ-loop → tie.At-loop Inv-loop μ-loop
+at-loop c = c .before .before .before .before
+
+abbrev after-turn : tie.After-head-flags-arg2 Inv-loop μ-loop → tie.After-turn Inv-loop μ-loop
+after-turn c = c .before .before .before
+
 -- The test that the code has made.
 tested : (c : tie.After-goes-on Inv-loop μ-loop) → SecondTest (c .goes-on .result) (c .before .loop .dir)
 tested c d is = sym (c .goes-on .ensures (frontOf (d .t1)) (c .before .loop .inv .2 d is))
@@ -38,18 +45,18 @@ turn-requires c κs =
     (passing-room (i .0), (i .0, (i .2, λ d is. tested (t .before) d is ∙ t .if1 .taken)))
 
 head-flags-requires-2 : tie.Need-head-flags-requires-2 Inv-loop μ-loop
-head-flags-requires-2 c κs = (passing-room (c .before .before .before .turn .ensures .passing), omega arith)
+head-flags-requires-2 c κs = (passing-room (after-turn c .turn .ensures .passing), omega arith)
 
 loop-less : tie.Need-loop-less Inv-loop μ-loop
 loop-less c =
-    let l = c .before .before .before .before .turn .ensures in
+    let l = after-turn (c .before) .turn .ensures in
     omega (arith, l .passing .accounts .left, l .one-move)
 
 loop-again : tie.Need-loop-again Inv-loop μ-loop
 loop-again c =
-    let t = c .before .before .before .before in
+    let t = after-turn (c .before) in
     let l = t .turn .ensures in
-    (l .passing, goes-on (t .before .before .before .before .loop .inv .1) l, c .head-flags2 .ensures, search needs)
+    (l .passing, goes-on (at-loop t .loop .inv .1) l, c .head-flags2 .ensures, search needs)
 
 returns : tie.Need-returns Inv-loop μ-loop
 returns c =

@@ -19,6 +19,28 @@ use Rattle.cart.proofs.Words.{passing-header, passing-room, t1-some}
 use Rattle.cart.proofs.turn.Statement.{statement}
 use Rattle.cart.proofs.turn.Tie as tie
 
+-- The places that are looked back to.
+abbrev at-start : tie.After-bit → tie.Start
+at-start c = c .before .before .before .before .before .before
+
+abbrev in-else1 : tie.After-move-head3 → tie.Else1
+in-else1 c = c .before .before
+
+abbrev in-then1 : tie.After-becomes-long → tie.Then1
+in-then1 c = c .before .before
+
+abbrev after-bit : tie.After-becomes-long → tie.After-bit
+after-bit c = in-then1 c .before
+
+abbrev after-move-head3 : tie.After-lower-arg → tie.After-move-head3
+after-move-head3 c = c .before .before .before
+
+abbrev in-then2 : tie.After-struct-known2 → tie.Then2
+in-then2 c = c .before .before .before .before .before .before
+
+abbrev after-move-head : tie.After-struct-known3 → tie.After-move-head
+after-move-head c = c .before .before .before .before
+
 -- T1 has a head, and the code's tests are of it.
 front : (c : tie.Start) (d : Directory) → Holds d (c .args .dir .now) → d .t1 ≡ frontOf (d .t1) ∷ dropHead (d .t1)
 front c d is = goes-front (d .t1) (c .pre .1 .1 .1 d is)
@@ -26,63 +48,63 @@ front c d is = goes-front (d .t1) (c .pre .1 .1 .1 d is)
 t1-there : (c : tie.Start) → 1 ≤ nT1 (c .args .dir .now)
 t1-there c = let p = c .pre .1 .0 in t1-some p (front c (p .dir) (p .shown))
 
-bit-is : (c : tie.After-bit) (d : Directory) → Holds d (c .before .before .before .before .before .before .args .dir .now)
+bit-is : (c : tie.After-bit) (d : Directory) → Holds d (at-start c .args .dir .now)
     → frontOf (d .t1) .bit ≡ c .bit .result
-bit-is c d is = sym (c .bit .ensures (frontOf (d .t1)) (c .before .before .before .before .before .before .pre .1 .1 .0 d is))
+bit-is c d is = sym (c .bit .ensures (frontOf (d .t1)) (at-start c .pre .1 .1 .0 d is))
 
 lengthens-is : (c : tie.After-becomes-long) (d : Directory)
-    → Holds d (c .before .before .before .before .before .before .before .before .before .args .dir .now)
+    → Holds d (at-start (after-bit c) .args .dir .now)
     → lengthens (frontOf (d .t1)) d ≡ c .becomes-long .result
 lengthens-is c d is =
-    let s = c .before .before .before .before .before .before .before .before .before in
+    let s = at-start (after-bit c) in
     sym (c .becomes-long .ensures d (frontOf (d .t1)) is (s .pre .1 .1 .0 d is))
 
 -- T1's head, L with its bit clear, has moved to T2's tail; `lower` is left to do.
-moved : (c : tie.After-move-head3) → let a = c .before .before .before .before .before .before .before .before .before .args in
+moved : (c : tie.After-move-head3) → let a = at-start (in-else1 c .before) .args in
     let k = a .kept in
     Moved Holds Cart.secondLook Cart.lower (a .dir .now) k (c .move-head3 .last .0)
     (afterMove (k .short) (k .long) (k .hand .cleared) k)
 moved c =
-    let b = c .before .before .before in
-    let s = b .before .before .before .before .before .before in
-    look-settles (s .pre .1 .0) (s .pre .1 .1 .1) (λ d is. bit-is b d is ∙ c .before .before .if1 .left)
+    let b = in-else1 c .before in
+    let s = at-start b in
+    look-settles (s .pre .1 .0) (s .pre .1 .1 .1) (λ d is. bit-is b d is ∙ in-else1 c .if1 .left)
     (λ d is. c .move-head3 .ensures d (frontOf (d .t1)) (cleared (frontOf (d .t1))) (dropHead (d .t1)) is (front s d is) refl
     (b .before .cleared .ensures (frontOf (d .t1)) (s .pre .1 .1 .0 d is)))
 
 test : (c : tie.Then2) (d : Directory)
-    → Holds d (c .before .before .before .before .before .before .before .before .before .before .args .dir .now)
+    → Holds d (at-start (after-bit (c .before)) .args .dir .now)
     → (isLong (frontOf (d .t1) .filter) ≡ false) × (Cart.becomesLong d ≡ true)
 test c d is = unless-iff _ _ .0 (lengthens-is (c .before) d is ∙ c .if2 .taken)
 
 becomes-long-requires : tie.Need-becomes-long-requires
 becomes-long-requires c κs =
-    let p = c .before .before .before .before .before .before .before .before .pre .1 .0 in
+    let p = at-start (c .before .before) .pre .1 .0 in
     omega (arith, p .accounts, passing-header p, passing-room p)
 
 move-head-requires : tie.Need-move-head-requires
 move-head-requires c κs =
-    let s = c .before .before .before .before .before .before .before .before .before .before .before .before in
+    let s = at-start (after-bit (c .before .before .before)) in
     (s .pre .0, omega (arith, t1-there s))
 
 sub-short : tie.Need-sub-t19
 sub-short c =
-    let t = c .before .before .before .before .before .before in
-    let s = t .before .before .before .before .before .before .before .before .before .before in
+    let t = in-then2 c in
+    let s = at-start (after-bit (t .before)) in
     let p = s .pre .1 .0 in
     short-counted (p .accounts) (front s (p .dir) (p .shown)) (test t (p .dir) (p .shown) .0)
 
 add-long : tie.Need-add-t21
 add-long c =
-    let p = c .before .before .before .before .before .before .before .before .before .before .before .before .before .before .before .before .before .pre .1 .0 in
+    let p = at-start (after-bit (in-then2 (c .before) .before)) .pre .1 .0 in
     omega (arith, p .accounts, counts-cached (p .accounts))
 
 returns : tie.Need-returns
 returns c =
-    let m = c .before .before .before .before in
+    let m = after-move-head c in
     let t = m .before .before .before in
-    let b = t .before .before .before .before in
-    let s = b .before .before .before .before .before .before in
-    look-makes-long (s .pre .1 .0) (λ d is. (bit-is b d is ∙ t .before .before .before .if1 .taken, test t d is .0)) (λ d is. test t d is .1)
+    let b = after-bit (t .before) in
+    let s = at-start b in
+    look-makes-long (s .pre .1 .0) (λ d is. (bit-is b d is ∙ in-then1 (t .before) .if1 .taken, test t d is .0)) (λ d is. test t d is .1)
     (λ d is. let e = frontOf (d .t1) in
     m .move-head .ensures d e (madeLong (cleared e)) (dropHead (d .t1)) is (front s d is) refl
     (m .before .made-long .ensures (cleared e) (b .before .cleared .ensures e (s .pre .1 .1 .0 d is))))
@@ -90,16 +112,16 @@ returns c =
 
 move-head-requires-2 : tie.Need-move-head-requires-2
 move-head-requires-2 c κs =
-    let s = c .before .before .before .before .before .before .before .before .before .before .before in
+    let s = at-start (after-bit (c .before .before)) in
     (s .pre .0, omega (arith, t1-there s))
 
 returns-2 : tie.Need-returns-2
 returns-2 c =
     let m = c .before .before in
     let t = m .before .before in
-    let b = t .before .before .before .before in
-    let s = b .before .before .before .before .before .before in
-    look-goes-round (s .pre .1 .0) (λ d is. bit-is b d is ∙ t .before .before .before .if1 .taken)
+    let b = after-bit (t .before) in
+    let s = at-start b in
+    look-goes-round (s .pre .1 .0) (λ d is. bit-is b d is ∙ in-then1 (t .before) .if1 .taken)
     (λ d is short. rw short at (lengthens-is (t .before) d is ∙ t .if2 .left))
     (λ d is. m .move-head2 .ensures d (frontOf (d .t1)) (cleared (frontOf (d .t1))) (dropHead (d .t1)) is (front s d is) refl
     (b .before .cleared .ensures (frontOf (d .t1)) (s .pre .1 .1 .0 d is)))
@@ -107,16 +129,16 @@ returns-2 c =
 
 move-head-requires-3 : tie.Need-move-head-requires-3
 move-head-requires-3 c κs =
-    let s = c .before .before .before .before .before .before .before .before in
+    let s = at-start (c .before .before) in
     (s .pre .0, omega (arith, t1-there s))
 
 lower-requires : tie.Need-lower-requires
 lower-requires c κs =
-    let p = moved (c .before .before .before) .between in
+    let p = moved (after-move-head3 c) .between in
     omega (arith, p .accounts, passing-header p, passing-room p)
 
 returns-3 : tie.Need-returns-3
-returns-3 c = moved (c .before .before .before .before .before .before) .looked _ (c .before .before .lower .ensures)
+returns-3 c = moved (after-move-head3 (c .before .before .before)) .looked _ (c .before .before .lower .ensures)
 
 pub turn-spec : {M : Type 1} → statement M
 turn-spec =
