@@ -16,27 +16,34 @@ Inv-loop text i₀ i = (i ≤ length text) × (allDigits text ≡ allDigits (dro
 abbrev μ-loop : tie.MeasureT-loop
 μ-loop text i₀ i = length text - i
 
+-- The places that are looked back to.
+abbrev at-start : tie.At-loop Inv-loop μ-loop → tie.Start Inv-loop μ-loop
+at-start c = c .before .before
+
+abbrev at-loop : tie.After-is-digit Inv-loop μ-loop → tie.At-loop Inv-loop μ-loop
+at-loop c = c .before .before .before
+
 loop-holds : tie.Need-loop-holds Inv-loop μ-loop
 loop-holds c = (omega arith, refl)
 
 returns : tie.Need-returns Inv-loop μ-loop
 returns c =
-    let v = c .before .before .before .before .loop in
-    let s = c .before .before .before .before .before .before .args .text .now in
+    let v = at-loop (c .before) .loop in
+    let s = at-start (at-loop (c .before)) .args .text .now in
     let isnt = fails (c .before .is-digit .ensures) (c .if1 .taken) in
     sym (v .inv .1 ∙ no-digit-here s (v .i) (omega arith) isnt)
 
 loop-again : tie.Need-loop-again Inv-loop μ-loop
 loop-again c =
-    let v = c .before .before .before .before .loop in
-    let s = c .before .before .before .before .before .before .args .text .now in
+    let v = at-loop (c .before) .loop in
+    let s = at-start (at-loop (c .before)) .args .text .now in
     let is = holds (c .before .is-digit .ensures) (c .if1 .left) in
     (omega arith, v .inv .1 ∙ digit-here s (v .i) (omega arith) is)
 
 returns-2 : tie.Need-returns-2 Inv-loop μ-loop
 returns-2 c =
     let v = c .before .loop in
-    let s = c .before .before .before .args .text .now in
+    let s = at-start (c .before) .args .text .now in
     sym (v .inv .1 ∙ ap allDigits (drop-of-length-le s {i = v .i} (omega arith)))
 
 pub all-digits-spec : {M : Type 1} → statement M

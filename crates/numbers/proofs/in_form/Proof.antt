@@ -10,6 +10,13 @@ use Rattle.numbers.proofs.Asked.{holds, fails}
 use Rattle.numbers.proofs.in_form.Statement.{statement}
 use Rattle.numbers.proofs.in_form.Tie as tie
 
+-- The places that are looked back to.
+abbrev at-start : tie.Else3 → tie.Start
+at-start c = c .before .before .before .before .before
+
+abbrev in-else3 : tie.After-shared-slice-known2 → tie.Else3
+in-else3 c = c .before .before
+
 returns : tie.Need-returns
 returns c =
     let a = c .before .before .args in
@@ -23,15 +30,15 @@ returns c =
 
 returns-2 : tie.Need-returns-2
 returns-2 c =
-    let a = c .before .before .before .before .before .before .args in
+    let a = at-start (c .before) .args in
     let all = holds (c .before .before .all-digits .ensures) (c .before .if3 .left) in
     let decides = zero-decides (a .most) (a .text .now) (omega arith) (omega (arith, ltb-false)) all in
     sym (decides ∙ rw (eq-eqb _ 1 (c .if4 .taken)))
 
 returns-3 : tie.Need-returns-3
 returns-3 c =
-    let a = c .before .before .before .before .before .before .before .args in
-    let all = holds (c .before .before .before .all-digits .ensures) (c .before .before .if3 .left) in
+    let a = at-start (in-else3 c) .args in
+    let all = holds (in-else3 c .before .all-digits .ensures) (in-else3 c .if3 .left) in
     let decides = zero-decides (a .most) (a .text .now) (omega arith) (omega (arith, ltb-false)) all in
     sym (decides ∙ rw (ne-eqb _ 1 (c .before .if4 .left)))
 

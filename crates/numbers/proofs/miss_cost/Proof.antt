@@ -15,16 +15,29 @@ use Rattle.numbers.proofs.Asked.{holds, fails}
 use Rattle.numbers.proofs.miss_cost.Statement.{statement}
 use Rattle.numbers.proofs.miss_cost.Tie as tie
 
+-- The places that are looked back to.
+abbrev at-start : tie.After-find → tie.Start
+at-start c = c .before .before
+
+abbrev in-else1 : tie.Joined2 → tie.Else1
+in-else1 c = c .before .before .before .before
+
+abbrev in-else2 : tie.Else3 → tie.Else2
+in-else2 c = c .before .before
+
+abbrev after-find : tie.Else3 → tie.After-find
+after-find c = in-else2 c .before .before .before .before .before
+
 -- The place that `find` answers.
-first : (c : tie.After-find) → c .find .result ≡ indexOf comma (c .before .before .args .text .now)
+first : (c : tie.After-find) → c .find .result ≡ indexOf comma (at-start c .args .text .now)
 unfolding slice
 first c =
-    let s = c .before .before .args .text .now in
+    let s = at-start c .args .text .now in
     c .find .ensures .0 ∙ zero-add (indexOf comma (take (length s) s)) ∙ ap (indexOf comma) (take-length s)
 
 returns : tie.Need-returns
 returns c =
-    let s = c .before .before .before .args .text .now in
+    let s = at-start (c .before) .args .text .now in
     sym (no-cost s (λ h. omega (arith, three-after s _ (first (c .before)) h)))
 
 slice-aggregate-before : tie.Need-slice-aggregate-before
@@ -32,8 +45,8 @@ slice-aggregate-before c = sym (length-take-le _ _ (c .before .before .find .ens
 
 returns-2 : tie.Need-returns-2
 returns-2 c =
-    let s = c .before .before .before .before .before .before .before .args .text .now in
-    let place = first (c .before .before .before .before .before) in
+    let s = at-start (in-else1 c .before) .args .text .now in
+    let place = first (in-else1 c .before) in
     sym (no-cost s (λ h.
     let parts = cost-in-parts s _ place h in
     ⊎-elim
@@ -43,18 +56,18 @@ returns-2 c =
 
 thousandths-requires : tie.Need-thousandths-requires
 thousandths-requires c κs =
-    let s = c .before .before .before .before .before .before .before .before .before .args .text .now in
-    let n = c .before .before .before .before .before .before .before .find .result in
-    let asked = holds (c .before .before .before .in-form .ensures) (c .before .before .if2 .left) in
+    let s = at-start (after-find c) .args .text .now in
+    let n = after-find c .find .result in
+    let asked = holds (in-else2 c .before .in-form .ensures) (in-else2 c .if2 .left) in
     let form = in-form 4 (take n s) asked in
     let all = holds (c .before .all-digits .ensures) (c .if3 .left) in
     ((form .digits, form .at-most), (all, omega (arith, length-take (length s - (n + 1)) (drop (n + 1) s))))
 
 returns-3 : tie.Need-returns-3
 returns-3 c =
-    let s = c .before .before .before .before .before .before .before .before .before .before .args .text .now in
-    let place = first (c .before .before .before .before .before .before .before .before) in
-    let form = holds (c .before .before .before .before .in-form .ensures) (c .before .before .before .if2 .left) in
+    let s = at-start (after-find (c .before)) .args .text .now in
+    let place = first (after-find (c .before)) in
+    let form = holds (in-else2 (c .before) .before .in-form .ensures) (in-else2 (c .before) .if2 .left) in
     let all = holds (c .before .before .all-digits .ensures) (c .before .if3 .left) in
     ap means (c .thousandths .ensures) ∙ sym (cost-from-parts s _ place (omega arith) form all)
 

@@ -5,20 +5,24 @@ use borrow.Author.Needs.{needs}
 use Rattle.numbers.proofs.thousandths.Statement.{statement}
 use Rattle.numbers.proofs.thousandths.Tie as tie
 
+-- The places that are looked back to.
+abbrev at-start : tie.After-value → tie.Start
+at-start c = c .before .before .before
+
 mul-result : tie.Need-mul-result
 mul-result c =
-    let x = c .before .before .before in
+    let x = at-start c in
     omega (arith, c .value .ensures, value-below 4 (x .args .before .now) (x .pre .0 .1) (x .pre .0 .0))
 
 add-result : tie.Need-add-result
 add-result c =
-    let x = c .before .before .before .before in
+    let x = at-start (c .before) in
     let below = thousandths-below (x .args .before .now) (x .args .after .now) (x .pre .0) (x .pre .1) in
     omega (arith, c .before .value .ensures, c .value2 .ensures, below)
 
 cast-result : tie.Need-cast-result
 cast-result c =
-    let x = c .before .before .before .before in
+    let x = at-start (c .before) in
     let below = thousandths-below (x .args .before .now) (x .args .after .now) (x .pre .0) (x .pre .1) in
     omega (arith, c .before .value .ensures, c .value2 .ensures, below)
 

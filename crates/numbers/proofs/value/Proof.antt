@@ -18,6 +18,13 @@ Inv-loop text n₀ i₀ n i =
 abbrev μ-loop : tie.MeasureT-loop
 μ-loop text n₀ i₀ n i = length text - i
 
+-- The places that are looked back to.
+abbrev at-loop : tie.After-shared-slice-known Inv-loop μ-loop → tie.At-loop Inv-loop μ-loop
+at-loop c = c .before .before
+
+abbrev at-start : tie.After-shared-slice-known Inv-loop μ-loop → tie.Start Inv-loop μ-loop
+at-start c = at-loop c .before
+
 loop-holds : tie.Need-loop-holds Inv-loop μ-loop
 loop-holds c = (omega arith, c .pre .0, refl)
 
@@ -30,31 +37,31 @@ mul-n c =
 
 sub-n : tie.Need-sub-n Inv-loop μ-loop
 sub-n c =
-    let v = c .before .before .loop in
-    let s = c .before .before .before .args .text .now in
+    let v = at-loop c .loop in
+    let s = at-start c .args .text .now in
     let digit = digit-and-rest s (v .i) (omega arith) (v .inv .1) in
     digit .0
 
 cast-n : tie.Need-cast-n Inv-loop μ-loop
 cast-n c =
-    let v = c .before .before .loop in
-    let s = c .before .before .before .args .text .now in
+    let v = at-loop c .loop in
+    let s = at-start c .args .text .now in
     let digit = digit-and-rest s (v .i) (omega arith) (v .inv .1) in
     omega (arith, digit .1)
 
 add-n : tie.Need-add-n Inv-loop μ-loop
 add-n c =
-    let v = c .before .before .loop in
-    let s = c .before .before .before .args .text .now in
+    let v = at-loop c .loop in
+    let s = at-start c .args .text .now in
     let digit = digit-and-rest s (v .i) (omega arith) (v .inv .1) in
     let grows = value-grows (10 * v .n + (getD s (v .i) 0 - 48)) (drop (v .i + 1) s) in
-    let below = value-below 10 s (c .before .before .before .pre .1) (c .before .before .before .pre .0) in
+    let below = value-below 10 s (at-start c .pre .1) (at-start c .pre .0) in
     omega (arith, v .inv .2, value-from s (v .i) (omega arith) (v .n))
 
 loop-again : tie.Need-loop-again Inv-loop μ-loop
 loop-again c =
-    let v = c .before .before .loop in
-    let s = c .before .before .before .args .text .now in
+    let v = at-loop c .loop in
+    let s = at-start c .args .text .now in
     let digit = digit-and-rest s (v .i) (omega arith) (v .inv .1) in
     (omega arith, digit .2, sym (value-from s (v .i) (omega arith) (v .n)) ∙ v .inv .2)
 

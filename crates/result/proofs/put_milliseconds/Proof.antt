@@ -8,6 +8,16 @@ use Rattle.result.proofs.Putting.{both, put-as, room-first, room-then}
 use Rattle.result.proofs.put_milliseconds.Statement.{statement}
 use Rattle.result.proofs.put_milliseconds.Tie as tie
 
+-- The places that are looked back to.
+abbrev at-start : tie.After-put-number → tie.Start
+at-start c = c .before .before .before
+
+abbrev after-put-number : tie.After-last-digit3 → tie.After-put-number
+after-put-number c = c .before .before .before .before .before
+
+abbrev after-last-digit3 : tie.After-slice-known3 → tie.After-last-digit3
+after-last-digit3 c = c .before .before .before .before .before
+
 put-number-requires : tie.Need-put-number-requires
 unfolding milliseconds
 put-number-requires c κs =
@@ -18,15 +28,15 @@ put-number-requires c κs =
 put-requires : tie.Need-put-requires
 unfolding milliseconds
 put-requires c κs =
-    let p = c .before .before .before .before .before .before .before in
-    record { fits = room-then (p .put-number .ensures) (p .before .before .before .pre) .fits }
+    let p = after-put-number (c .before .before) in
+    record { fits = room-then (p .put-number .ensures) (at-start p .pre) .fits }
 
 returns : tie.Need-returns
 unfolding milliseconds
 returns c =
-    let d = c .before .before .before .before .before in
-    let p = d .before .before .before .before .before in
-    let t = p .before .before .before .args .thousandths in
+    let d = after-last-digit3 c in
+    let p = after-put-number d in
+    let t = at-start p .args .thousandths in
     let first = d .before .before .last-digit .ensures in
     let second = d .before .last-digit2 .ensures in
     let third = d .last-digit3 .ensures in

@@ -8,22 +8,32 @@ use Rattle.result.proofs.Putting.{both, room-first, room-then}
 use Rattle.result.proofs.put_policy.Statement.{statement}
 use Rattle.result.proofs.put_policy.Tie as tie
 
+-- The places that are looked back to.
+abbrev at-start : tie.After-put → tie.Start
+at-start c = c .before .before .before .before
+
+abbrev after-put : tie.After-put-name-arg → tie.After-put
+after-put c = c .before .before .before
+
+abbrev after-put-name : tie.After-put-byte-arg → tie.After-put-name
+after-put-name c = c .before .before .before
+
 put-name-requires : tie.Need-put-name-requires
 put-name-requires c κs =
-    let p = c .before .before .before in
-    let s = p .before .before .before .before in
+    let p = after-put c in
+    let s = at-start p in
     room-first (bytes (policyName (s .args .policy))) (lineFeed ∷ []) (room-then (p .put .ensures) (s .pre))
 
 put-byte-requires : tie.Need-put-byte-requires
 put-byte-requires c κs =
-    let m = c .before .before .before in
-    let p = m .before .before .before .before in
-    room-then (m .put-name .ensures) (room-then (p .put .ensures) (p .before .before .before .before .pre))
+    let m = after-put-name c in
+    let p = after-put (m .before) in
+    room-then (m .put-name .ensures) (room-then (p .put .ensures) (at-start p .pre))
 
 returns : tie.Need-returns
 returns c =
-    let m = c .before .before .before .before .before .before in
-    both (m .before .before .before .before .put .ensures)
+    let m = after-put-name (c .before .before .before) in
+    both (after-put (m .before) .put .ensures)
     (both (m .put-name .ensures) (c .before .before .put-byte .ensures))
 
 pub put-policy-spec : {M : Type 1} → statement M

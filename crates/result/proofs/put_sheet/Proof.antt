@@ -7,33 +7,46 @@ use Rattle.result.proofs.Putting.{both, put-as}
 use Rattle.result.proofs.put_sheet.Statement.{statement}
 use Rattle.result.proofs.put_sheet.Tie as tie
 
+-- The places that are looked back to.
+abbrev at-start : tie.After-put-policy → tie.Start
+at-start c = c .before .before .before
+
+abbrev after-put-policy : tie.After-put-line-arg2 → tie.After-put-policy
+after-put-policy c = c .before .before .before .before
+
+abbrev after-put-line : tie.After-put-tally-arg → tie.After-put-line
+after-put-line c = c .before .before .before
+
+abbrev after-put-tally : tie.After-put-wait-arg → tie.After-put-tally
+after-put-tally c = c .before .before .before
+
 put-policy-requires : tie.Need-put-policy-requires
 put-policy-requires c κs = omega (arith, sheet-length (defined (c .before .before .args .o)))
 
 put-line-requires : tie.Need-put-line-requires
 put-line-requires c κs =
-    let policy = c .before .before .before .before in
-    omega (arith, sheet-length (defined (policy .before .before .before .args .o)))
+    let policy = after-put-policy c in
+    omega (arith, sheet-length (defined (at-start policy .args .o)))
 
 put-tally-requires : tie.Need-put-tally-requires
 put-tally-requires c κs =
-    let pages = c .before .before .before in
-    let policy = pages .before .before .before .before .before in
-    omega (arith, sheet-length (defined (policy .before .before .before .args .o)))
+    let pages = after-put-line c in
+    let policy = after-put-policy (pages .before) in
+    omega (arith, sheet-length (defined (at-start policy .args .o)))
 
 put-wait-requires : tie.Need-put-wait-requires
 put-wait-requires c κs =
-    let tally = c .before .before .before in
-    let pages = tally .before .before .before .before in
-    let policy = pages .before .before .before .before .before in
-    omega (arith, sheet-length (defined (policy .before .before .before .args .o)))
+    let tally = after-put-tally c in
+    let pages = after-put-line (tally .before) in
+    let policy = after-put-policy (pages .before) in
+    omega (arith, sheet-length (defined (at-start policy .args .o)))
 
 returns : tie.Need-returns
 returns c =
-    let tally = c .before .before .before .before .before .before in
-    let pages = tally .before .before .before .before in
-    let policy = pages .before .before .before .before .before in
-    put-as (sheet-parts (defined (policy .before .before .before .args .o)))
+    let tally = after-put-tally (c .before .before .before) in
+    let pages = after-put-line (tally .before) in
+    let policy = after-put-policy (pages .before) in
+    put-as (sheet-parts (defined (at-start policy .args .o)))
     (both (policy .put-policy .ensures)
     (both (pages .put-line .ensures)
     (both (tally .put-tally .ensures) (c .before .before .put-wait .ensures))))

@@ -10,6 +10,13 @@ use Rattle.result.proofs.Refused.{sheet-policy, sheet-short, sheet-writ
 use Rattle.result.proofs.write.Statement.{statement}
 use Rattle.result.proofs.write.Tie as tie
 
+-- The places that are looked back to.
+abbrev at-start : tie.Else1 → tie.Start
+at-start c = c .before .before .before
+
+abbrev in-else2 : tie.After-slice-known2 → tie.Else2
+in-else2 c = c .before .before .before .before
+
 -- What `!answer` tells of the test that was answered.
 unknown : {answer test : Bool} → answer ≡ test → not answer ≡ true → test ≡ false
 unknown said taken = sym said ∙ not-true _ taken
@@ -20,21 +27,21 @@ returns c = sheet-policy _ _ (search unknown)
 returns-2 : tie.Need-returns-2
 returns-2 c =
     let k = c .before .before .known-policy in
-    let a = c .before .before .before .before .args in
+    let a = at-start (c .before) .args in
     let known = sym (k .ensures) ∙ not-false (k .result) (c .before .if1 .left) in
     sheet-short (a .outcome) (a .out .now) known (c .if2 .taken)
 
 put-sheet-requires : tie.Need-put-sheet-requires
 put-sheet-requires c κs =
-    let s = c .before .before .before .before .before in
+    let s = at-start (c .before .before) in
     let most = result-fits (defined (s .args .outcome)) (omega arith) in
     omega arith
 
 returns-3 : tie.Need-returns-3
 returns-3 c =
-    let e = c .before .before .before .before in
+    let e = in-else2 c in
     let k = e .before .before .known-policy in
-    let a = e .before .before .before .before .args in
+    let a = at-start (e .before) .args in
     let known = sym (k .ensures) ∙ not-false (k .result) (e .before .if1 .left) in
     sheet-written (a .outcome) (a .out .now) known (e .if2 .left) (c .before .before .put-sheet .ensures)
 

@@ -9,6 +9,13 @@ use Rattle.result.proofs.Refused.{text-short, text-written}
 use Rattle.result.proofs.write_refusal.Statement.{statement}
 use Rattle.result.proofs.write_refusal.Tie as tie
 
+-- The places that are looked back to.
+abbrev at-start : tie.After-put-line-arg2 → tie.Start
+at-start c = c .before .before .before .before
+
+abbrev after-put-line : tie.After-put-line-arg4 → tie.After-put-line
+after-put-line c = c .before .before .before .before
+
 returns : tie.Need-returns
 returns c =
     let a = c .before .before .args in
@@ -16,12 +23,12 @@ returns c =
 
 put-line-requires : tie.Need-put-line-requires
 put-line-requires c κs =
-    let s = c .before .before .before .before in
+    let s = at-start c in
     omega (arith, count-length (bytes "refused=") (s .args .number) (omega arith))
 
 put-line-requires-2 : tie.Need-put-line-requires-2
 put-line-requires-2 c κs =
-    let s = c .before .before .before .before .before .before .before .before .before in
+    let s = at-start (after-put-line c .before) in
     let first = count-length (bytes "refused=") (s .args .number) (omega arith) in
     let second = count-length (bytes "line=") (s .args .line) (omega arith) in
     omega arith
@@ -29,7 +36,7 @@ put-line-requires-2 c κs =
 returns-2 : tie.Need-returns-2
 unfolding refusedSheet
 returns-2 c =
-    let first = c .before .before .before .before .before .before .before in
+    let first = after-put-line (c .before .before .before) in
     let e = first .before .before .before in
     let a = e .before .before .args in
     text-written (refusedSheet (a .number) (a .line)) (a .out .now) (e .if1 .left)

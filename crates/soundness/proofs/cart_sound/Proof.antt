@@ -13,6 +13,13 @@ use borrow.Author.Needs.{needs}
 use Rattle.soundness.proofs.cart_sound.Statement.{statement}
 use Rattle.soundness.proofs.cart_sound.Tie as tie
 
+-- The places that are looked back to.
+abbrev after-count : tie.After-count2 → tie.After-count
+after-count c = c .before .before .before
+
+abbrev after-count2 : tie.After-count3 → tie.After-count2
+after-count2 c = c .before .before .before
+
 returns : tie.Need-returns
 unfolding cartSound
 returns c = fails _ (λ h. let said = simp reads at h in omega arith)
@@ -32,13 +39,13 @@ returns-2 c =
     let t2 = long-in-t2 (c .before .before) in
     fails _ (λ h. let said = simp reads at h in c .if2 .taken (omega (arith, total-append short (d .t2) (d .b2))))
 
-long-in-b2 : (c : tie.After-count2) → c .count2 .result ≡ total long (decode (start (c .before .before .before) .args .dir .now) .b2)
-long-in-b2 c = told (b2-stands (start (c .before .before .before) .pre)) _ _ (c .count2 .ensures .1) (omega arith) (omega arith)
+long-in-b2 : (c : tie.After-count2) → c .count2 .result ≡ total long (decode (start (after-count c) .args .dir .now) .b2)
+long-in-b2 c = told (b2-stands (start (after-count c) .pre)) _ _ (c .count2 .ensures .1) (omega arith) (omega arith)
 
 returns-3 : tie.Need-returns-3
 unfolding cartSound
 returns-3 c =
-    let s = start (c .before .before .before .before .before) in
+    let s = start (after-count (c .before .before)) in
     let d = decode (s .args .dir .now) in
     let all = filters (b2-stands (s .pre)) in
     let b2 = long-in-b2 (c .before .before) in
@@ -47,10 +54,10 @@ returns-3 c =
 returns-4 : tie.Need-returns-4
 unfolding cartSound
 returns-4 c =
-    let s = start (c .before .before .before .before .before .before) in
+    let s = start (after-count (after-count2 c)) in
     let d = decode (s .args .dir .now) in
-    let t2 = long-in-t2 (c .before .before .before .before .before .before) in
-    let b2 = long-in-b2 (c .before .before .before) in
+    let t2 = long-in-t2 (after-count (after-count2 c)) in
+    let b2 = long-in-b2 (after-count2 c) in
     let b1 = told (b1-stands (s .pre)) _ _ (c .count3 .ensures .1) (omega arith) (omega arith) in
     let none-short : total short (d .t2 ++ d .b2) ≡ 0 =
     omega (arith, total-append short (d .t2) (d .b2), filters (t2-stands (s .pre)), filters (b2-stands (s .pre))) in

@@ -13,6 +13,10 @@ use borrow.Author.Needs.{needs}
 use Rattle.soundness.proofs.entries_sound.Statement.{statement}
 use Rattle.soundness.proofs.entries_sound.Tie as tie
 
+-- The places that are looked back to.
+abbrev after-pages-differ : tie.After-count → tie.After-pages-differ
+after-pages-differ c = c .before .before
+
 abbrev start : tie.After-pages-differ → tie.Start
 start c = c .before .before .before .before .before .before .before .before .before .before
 
@@ -28,13 +32,13 @@ returns c = rw (sym (differs (c .before)) ∙ not-true _ (c .if1 .taken))
 all-differ : (c : tie.Else1) → differ (listed (d (c .before))) ≡ true
 all-differ c = sym (differs (c .before)) ∙ not-false _ (c .if1 .left)
 
-bits-set : (c : tie.After-count) → (let d = d (c .before .before) in c .count .result ≡ total bits (d .b1 ++ d .b2))
-bits-set c = told (history-stands (start (c .before .before) .pre)) _ _ (c .count .ensures .1) (omega arith) (omega arith)
+bits-set : (c : tie.After-count) → (let d = d (after-pages-differ c) in c .count .result ≡ total bits (d .b1 ++ d .b2))
+bits-set c = told (history-stands (start (after-pages-differ c) .pre)) _ _ (c .count .ensures .1) (omega arith) (omega arith)
 
 returns-2 : tie.Need-returns-2
 returns-2 c = rw (all-differ (c .before .before), ne-eqb _ 0 (λ none. c .if2 .taken (bits-set (c .before) ∙ none)))
 
-none-set : (c : tie.Else2) → (let d = d (c .before .before .before) in noneOf bits (d .b1 ++ d .b2) ≡ true)
+none-set : (c : tie.Else2) → (let d = d (after-pages-differ (c .before)) in noneOf bits (d .b1 ++ d .b2) ≡ true)
 none-set c = eq-eqb _ 0 (sym (bits-set (c .before)) ∙ c .if2 .left)
 
 returns-3 : tie.Need-returns-3

@@ -13,6 +13,16 @@ use borrow.Author.Needs.{needs}
 use Rattle.soundness.proofs.is_sound.Statement.{statement}
 use Rattle.soundness.proofs.is_sound.Tie as tie
 
+-- The places that are looked back to.
+abbrev in-else1 : tie.After-wide4 → tie.Else1
+in-else1 c = c .before .before .before .before .before .before .before .before
+
+abbrev after-wide4 : tie.Else2 → tie.After-wide4
+after-wide4 c = c .before .before
+
+abbrev in-else2 : tie.Else3 → tie.Else2
+in-else2 c = c .before .before
+
 returns : tie.Need-returns
 returns c = denied (sound-sizes _) (sym (c .before .sizes-fit .ensures) ∙ not-true _ (c .if1 .taken))
 
@@ -29,7 +39,7 @@ abbrev w : tie.After-wide4 → List ℕ
 w c = start c .args .dir .now
 
 sizes : (c : tie.After-wide4) → sizesFit (w c) ≡ true
-sizes c = let e = c .before .before .before .before .before .before .before .before in sym (e .before .sizes-fit .ensures) ∙ not-false _ (e .if1 .left)
+sizes c = let e = in-else1 c in sym (e .before .sizes-fit .ensures) ∙ not-false _ (e .if1 .left)
 
 add-all-2 : tie.Need-add-all-2
 add-all-2 c = let said = simp reads at (sizes c) in omega arith
@@ -45,36 +55,36 @@ returns-2 : tie.Need-returns-2
 returns-2 c = denied (sound-flags _) (sym (flags-are (c .before)) ∙ not-true _ (c .if2 .taken))
 
 mul-all-zero : tie.Need-mul-all-zero
-mul-all-zero c = let said = simp reads at (sizes (c .before .before)) in omega arith
+mul-all-zero c = let said = simp reads at (sizes (after-wide4 c)) in omega arith
 
 add-all-zero : tie.Need-add-all-zero
-add-all-zero c = let said = simp reads at (sizes (c .before .before)) in omega arith
+add-all-zero c = let said = simp reads at (sizes (after-wide4 c)) in omega arith
 
 all-zero-requires : tie.Need-all-zero-requires
-all-zero-requires c κs = let said = simp reads at (sizes (c .before .before)) in omega arith
+all-zero-requires c κs = let said = simp reads at (sizes (after-wide4 c)) in omega arith
 
-zeros-are : (c : tie.After-all-zero) → c .all-zero .result ≡ restZero (w (c .before .before .before))
+zeros-are : (c : tie.After-all-zero) → c .all-zero .result ≡ restZero (w (after-wide4 (c .before)))
 zeros-are c = cc
 
 returns-3 : tie.Need-returns-3
 returns-3 c = denied (sound-zeros _) (sym (zeros-are (c .before)) ∙ not-true _ (c .if3 .taken))
 
-flags : (c : tie.Else2) → flagsKnown (w (c .before .before)) ≡ true
+flags : (c : tie.Else2) → flagsKnown (w (after-wide4 c)) ≡ true
 flags c = sym (flags-are (c .before)) ∙ not-false _ (c .if2 .left)
 
-zeros : (c : tie.Else3) → restZero (w (c .before .before .before .before)) ≡ true
+zeros : (c : tie.Else3) → restZero (w (after-wide4 (in-else2 c))) ≡ true
 zeros c = sym (zeros-are (c .before)) ∙ not-false _ (c .if3 .left)
 
 entries-sound-requires : tie.Need-entries-sound-requires
 entries-sound-requires c κs =
-    let e = c .before .before in
-    held (start (e .before .before) .pre) (sizes (e .before .before)) (flags e) (zeros c)
+    let e = in-else2 c in
+    held (start (after-wide4 e) .pre) (sizes (after-wide4 e)) (flags e) (zeros c)
 
 returns-4 : tie.Need-returns-4
 returns-4 c =
-    let e = c .before .before .before in
+    let e = in-else2 (c .before) in
     c .entries-sound .ensures
-    ∙ sound-entries (start (e .before .before) .pre) (sizes (e .before .before)) (flags e) (zeros (c .before))
+    ∙ sound-entries (start (after-wide4 e) .pre) (sizes (after-wide4 e)) (flags e) (zeros (c .before))
 
 pub is-sound-spec : {M : Type 1} → statement M
 is-sound-spec =
