@@ -20,25 +20,35 @@ Inv-loop sheet start at₀ count₀ at count =
 abbrev μ-loop : tie.MeasureT-loop
 μ-loop sheet start at₀ count₀ at count = length sheet - at
 
+-- The places that are looked back to.
+abbrev at-start : tie.At-loop Inv-loop μ-loop → tie.Start Inv-loop μ-loop
+at-start c = c .before .before
+
+abbrev at-loop : tie.After-page-line Inv-loop μ-loop → tie.At-loop Inv-loop μ-loop
+at-loop c = c .before .before
+
+abbrev after-page-line : tie.After-page Inv-loop μ-loop → tie.After-page-line Inv-loop μ-loop
+after-page-line c = c .before .before
+
 -- A good page line, in the loop.
 good-page : (c : tie.After-page Inv-loop μ-loop)
-    → let in-loop = c .before .before .before .before in
-    let s = in-loop .before .before .args .sheet .now in
+    → let in-loop = at-loop (after-page-line c) in
+    let s = at-start in-loop .args .sheet .now in
     PageRead s (in-loop .loop .at) (in-loop .loop .count) (c .page .given .0 .0) (c .page .given .0 .1 .0)
-good-page c = page-read _ _ _ _ _ (subst (ReadsLine _ _ _) (c .page .given .1) (c .before .before .page-line .ensures))
+good-page c = page-read _ _ _ _ _ (subst (ReadsLine _ _ _) (c .page .given .1) (after-page-line c .page-line .ensures))
 
 loop-holds : tie.Need-loop-holds Inv-loop μ-loop
 loop-holds c =
     (omega arith, after-none (pagesFrom 0 (lines (drop (c .before .args .start) (c .before .args .sheet .now)))))
 
 add-t10 : tie.Need-add-t10 Inv-loop μ-loop
-add-t10 c = let few = c .before .before .before .before .loop .inv .0 in search needs
+add-t10 c = let few = at-loop (c .before .before) .loop .inv .0 in search needs
 
 returns : tie.Need-returns Inv-loop μ-loop
 returns c =
     let page = c .before .before in
-    let v = page .before .before .loop in
-    let s = page .before .before .before .before .args .sheet .now in
+    let v = at-loop page .loop in
+    let s = at-start (at-loop page) .args .sheet .now in
     let inside = page .before .loop-test .taken in
     let wrong = page-wrong s (v .at) (v .count) _ inside (c .before .match .keys2) (page .page-line .ensures) in
     ap (λ number. Listed.Refused number (v .count + 4)) (c .number-of .ensures)
@@ -53,14 +63,14 @@ loop-less c = let h = good-page (c .before) in omega arith
 loop-again : tie.Need-loop-again Inv-loop μ-loop
 loop-again c =
     let h = good-page (c .before) in
-    let v = c .before .before .before .before .before .loop in (
+    let v = at-loop (after-page-line (c .before)) .loop in (
       omega arith,
       v .inv .1 ∙ counts-on _ _ _ _ _ h,
     )
 
 returns-2 : tie.Need-returns-2 Inv-loop μ-loop
 returns-2 c =
-    let s = c .before .before .before .args .sheet .now in
+    let s = at-start (c .before) .args .sheet .now in
     let v = c .before .loop in
     let ended = drop-of-length-le s {i = v .at} (c .loop-test .left) in
     let all : v .count ≡ v .count + 0 = omega arith in

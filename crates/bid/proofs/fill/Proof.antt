@@ -17,20 +17,27 @@ Inv-loop sheet start pages₀ at₀ count₀ pages at count =
 abbrev μ-loop : tie.MeasureT-loop
 μ-loop sheet start pages₀ at₀ count₀ pages at count = length sheet - at
 
+-- The places that are looked back to.
+abbrev at-start : tie.At-loop Inv-loop μ-loop → tie.Start Inv-loop μ-loop
+at-start c = c .before .before .before
+
+abbrev at-loop : tie.After-page Inv-loop μ-loop → tie.At-loop Inv-loop μ-loop
+at-loop c = c .before .before .before .before
+
 -- A good page line, in the loop.
 good-page : (c : tie.After-page Inv-loop μ-loop)
-    → let in-loop = c .before .before .before .before in
-    let s = in-loop .before .before .before .args .sheet .now in
+    → let in-loop = at-loop c in
+    let s = at-start in-loop .args .sheet .now in
     PageRead s (in-loop .loop .at) (in-loop .loop .count) (c .page .given .0 .0) (c .page .given .0 .1 .0)
 good-page c = page-read _ _ _ _ _ (subst (ReadsLine _ _ _) (c .page .given .1) (c .before .before .page-line .ensures))
 
 -- There is room for its page.
 roomy : (c : tie.After-page Inv-loop μ-loop)
-    → let in-loop = c .before .before .before .before in
-    in-loop .loop .count < length (in-loop .before .before .before .args .pages .now)
+    → let in-loop = at-loop c in
+    in-loop .loop .count < length (at-start in-loop .args .pages .now)
 roomy c =
     let few = good-page c .one-of-thousand in
-    omega (arith, c .before .before .before .before .before .before .before .pre)
+    omega (arith, at-start (at-loop c) .pre)
 
 loop-holds : tie.Need-loop-holds Inv-loop μ-loop
 loop-holds c = (omega arith, refl, nothing-written _ _ _)
@@ -53,7 +60,7 @@ mul-pages c = let few = good-page (c .before) .one-of-thousand in search needs
 
 slice-write-pages : tie.Need-slice-write-pages Inv-loop μ-loop
 slice-write-pages c =
-    let room = roomy (c .before) in omega (arith, c .before .before .before .before .before .loop .inv .1)
+    let room = roomy (c .before) in omega (arith, at-loop (c .before) .loop .inv .1)
 
 add-count : tie.Need-add-count Inv-loop μ-loop
 add-count c = let few = good-page (c .before) .one-of-thousand in search needs
@@ -64,7 +71,7 @@ loop-less c = let h = good-page (c .before) in omega arith
 loop-again : tie.Need-loop-again Inv-loop μ-loop
 loop-again c =
     let h = good-page (c .before) in
-    let v = c .before .before .before .before .before .loop in (
+    let v = at-loop (c .before) .loop in (
       omega arith,
       length-set (v .pages) (v .count) _ ∙ v .inv .1,
       writes-on _ _ _ _ _ _ (v .inv .2) _ _ (roomy (c .before)) h,

@@ -7,52 +7,62 @@ use Rattle.bid.proofs.Readings.{value-inside, no-line-read, good-read, 
 use Rattle.bid.proofs.keyed_lines.policy_line.Statement.{statement}
 use Rattle.bid.proofs.keyed_lines.policy_line.Tie as tie
 
+-- The places that are looked back to.
+abbrev after-under-key : tie.After-start → tie.After-under-key
+after-under-key c = c .before .before
+
+abbrev after-start : tie.After-policy-value → tie.After-start
+after-start c = c .before .before .before
+
+abbrev after-policy-value : tie.After-known-told2 → tie.After-policy-value
+after-policy-value c = c .before .before .before
+
 returns : tie.Need-returns
 unfolding policyLine
 returns c = no-line-read (c .before .before .under-key .ensures) _ (c .enum-told .given .1)
 
 sub-policy-value : tie.Need-sub-policy-value
 sub-policy-value c =
-    let i = value-inside (c .before .before .before .under-key .ensures) (c .before .start .given .1) in search needs
+    let i = value-inside (after-under-key (c .before) .under-key .ensures) (c .before .start .given .1) in search needs
 
 part-policy-value-start : tie.Need-part-policy-value-start
 part-policy-value-start c =
-    let i = value-inside (c .before .before .before .under-key .ensures) (c .before .start .given .1) in search needs
+    let i = value-inside (after-under-key (c .before) .under-key .ensures) (c .before .start .given .1) in search needs
 
 part-policy-value-end : tie.Need-part-policy-value-end
 part-policy-value-end c =
-    let i = value-inside (c .before .before .before .under-key .ensures) (c .before .start .given .1) in search needs
+    let i = value-inside (after-under-key (c .before) .under-key .ensures) (c .before .start .given .1) in search needs
 
 add-t16 : tie.Need-add-t16
 add-t16 c =
-    let found = c .before .before .before .before .before .before in
-    let i = value-inside (found .before .before .under-key .ensures) (found .start .given .1) in search needs
+    let found = after-start (after-policy-value c) in
+    let i = value-inside (after-under-key found .under-key .ensures) (found .start .given .1) in search needs
 
 add-t17 : tie.Need-add-t17
 add-t17 c =
-    let found = c .before .before .before .before .before in
-    let i = value-inside (found .before .before .under-key .ensures) (found .start .given .1) in search needs
+    let found = after-start (c .before .before) in
+    let i = value-inside (after-under-key found .under-key .ensures) (found .start .given .1) in search needs
 
 returns-2 : tie.Need-returns-2
 unfolding policyLine
 returns-2 c =
-    let found = c .before .before .before .before .before .before in
-    let value = c .before .before .before in
-    good-read (found .before .before .under-key .ensures) _ (found .start .given .1)
+    let found = after-start (after-policy-value c) in
+    let value = after-policy-value c in
+    good-read (after-under-key found .under-key .ensures) _ (found .start .given .1)
     (ap policyMeant (sym (value .policy-value .ensures) ∙ ap policyCase (c .before .policy .given .1)))
 
 returns-3 : tie.Need-returns-3
 unfolding policyLine
 returns-3 c =
-    let found = c .before .before .before .before .before in
-    good-read (found .before .before .under-key .ensures) _ (found .start .given .1)
+    let found = after-start (c .before .before) in
+    good-read (after-under-key found .under-key .ensures) _ (found .start .given .1)
     (ap policyMeant (sym (c .before .before .policy-value .ensures) ∙ ap policyCase (c .enum-told2 .given .1)))
 
 returns-4 : tie.Need-returns-4
 unfolding policyLine
 returns-4 c =
-    let found = c .before .before .before .before .before in
-    wrong-read (found .before .before .under-key .ensures) _ (found .start .given .1) refl tt
+    let found = after-start (c .before .before) in
+    wrong-read (after-under-key found .under-key .ensures) _ (found .start .given .1) refl tt
     (ap policyMeant (sym (c .before .before .policy-value .ensures) ∙ ap policyCase (c .enum-told3 .given .1)))
 
 pub policy-line-spec : {M : Type 1} → statement M

@@ -12,6 +12,13 @@ use Rattle.text.proofs.Text.{same-starts, lengths-differ}
 use Rattle.bid.proofs.keyed_lines.policy_value.Statement.{statement}
 use Rattle.bid.proofs.keyed_lines.policy_value.Tie as tie
 
+-- The places that are looked back to.
+abbrev in-else1 : tie.After-equal → tie.Else1
+in-else1 c = c .before .before
+
+abbrev in-else2 : tie.After-equal2 → tie.Else2
+in-else2 c = c .before .before
+
 -- The value by the outcome of the three tests.
 abbrev chosen : Bool → Bool → Bool → PolicyValue
 chosen a b c = if a then blank else if b then named car else if c then named cart else unknown
@@ -25,14 +32,14 @@ returns c = let s = c .before .before .args .text .now in by-tests s (same-start
 
 returns-2 : tie.Need-returns-2
 returns-2 c =
-    let full = c .before .before .before in
+    let full = in-else1 (c .before) in
     let s = full .before .before .args .text .now in
     by-tests s (lengths-differ s [] (full .if1 .left)) (sym (c .before .equal .ensures) ∙ c .if2 .taken) refl
 
 returns-3 : tie.Need-returns-3
 returns-3 c =
-    let other = c .before .before .before in
-    let full = other .before .before .before in
+    let other = in-else2 (c .before) in
+    let full = in-else1 (other .before) in
     let s = full .before .before .args .text .now in
     by-tests s
     (lengths-differ s [] (full .if1 .left))
@@ -41,8 +48,8 @@ returns-3 c =
 
 returns-4 : tie.Need-returns-4
 returns-4 c =
-    let other = c .before .before .before in
-    let full = other .before .before .before in
+    let other = in-else2 (c .before) in
+    let full = in-else1 (other .before) in
     let s = full .before .before .args .text .now in
     by-tests s
     (lengths-differ s [] (full .if1 .left))

@@ -13,6 +13,19 @@ use Rattle.bid.proofs.Readings.{value-inside, no-line-read, good-read, 
 use Rattle.bid.proofs.keyed_lines.size_line.Statement.{statement}
 use Rattle.bid.proofs.keyed_lines.size_line.Tie as tie
 
+-- The places that are looked back to.
+abbrev after-under-key : tie.After-start → tie.After-under-key
+after-under-key c = c .before .before
+
+abbrev after-start : tie.After-c → tie.After-start
+after-start c = c .before .before .before .before .before
+
+abbrev after-known-told : tie.After-enum-told2 → tie.After-known-told
+after-known-told c = c .before .before .before .before
+
+abbrev after-c : tie.After-known-size → tie.After-c
+after-c c = c .before .before
+
 -- A well-formed number is meant where it is a size, and refused where it is none.
 module _ (n : ℕ) where
   abbrev ranged : Bool → Value
@@ -32,45 +45,45 @@ returns c = no-line-read (c .before .before .under-key .ensures) _ (c .enum-told
 
 sub-whole : tie.Need-sub-whole
 sub-whole c =
-    let i = value-inside (c .before .before .before .under-key .ensures) (c .before .start .given .1) in search needs
+    let i = value-inside (after-under-key (c .before) .under-key .ensures) (c .before .start .given .1) in search needs
 
 part-whole-start : tie.Need-part-whole-start
 part-whole-start c =
-    let i = value-inside (c .before .before .before .under-key .ensures) (c .before .start .given .1) in search needs
+    let i = value-inside (after-under-key (c .before) .under-key .ensures) (c .before .start .given .1) in search needs
 
 part-whole-end : tie.Need-part-whole-end
 part-whole-end c =
-    let i = value-inside (c .before .before .before .under-key .ensures) (c .before .start .given .1) in search needs
+    let i = value-inside (after-under-key (c .before) .under-key .ensures) (c .before .start .given .1) in search needs
 
 returns-2 : tie.Need-returns-2
 unfolding sizeLine
 returns-2 c =
-    let found = c .before .before .before .before .before in
-    wrong-read (found .before .before .under-key .ensures) _ (found .start .given .1) refl tt
+    let found = after-known-told c .before in
+    wrong-read (after-under-key found .under-key .ensures) _ (found .start .given .1) refl tt
     (ap inRange (sym (c .before .before .whole .ensures) ∙ ap meant (c .enum-told2 .given .1)))
 
 returns-3 : tie.Need-returns-3
 unfolding sizeLine
 returns-3 c =
     let sized = c .before in
-    let number = sized .before .before in
-    let found = number .before .before .before .before .before in
-    wrong-read (found .before .before .under-key .ensures) _ (found .start .given .1) refl tt
+    let number = after-c sized in
+    let found = after-start number in
+    wrong-read (after-under-key found .under-key .ensures) _ (found .start .given .1) refl tt
     (ap inRange (sym (number .before .before .whole .ensures) ∙ ap meant (number .c .given .1))
     ∙ out-of-range (number .c .given .0 .0) _ (sized .known-size .ensures) (c .if1 .taken))
 
 add-t12 : tie.Need-add-t12
 add-t12 c =
-    let found = c .before .before .before .before .before .before .before .before in
-    let i = value-inside (found .before .before .under-key .ensures) (found .start .given .1) in search needs
+    let found = after-start (after-c (c .before)) in
+    let i = value-inside (after-under-key found .under-key .ensures) (found .start .given .1) in search needs
 
 returns-4 : tie.Need-returns-4
 unfolding sizeLine
 returns-4 c =
     let sized = c .before in
-    let number = sized .before .before in
-    let found = number .before .before .before .before .before in
-    good-read (found .before .before .under-key .ensures) _ (found .start .given .1)
+    let number = after-c sized in
+    let found = after-start number in
+    good-read (after-under-key found .under-key .ensures) _ (found .start .given .1)
     (ap inRange (sym (number .before .before .whole .ensures) ∙ ap meant (number .c .given .1))
     ∙ in-range (number .c .given .0 .0) _ (sized .known-size .ensures) (c .if1 .left))
 

@@ -8,36 +8,49 @@ use Rattle.entries.proofs.Changes.{head-to-other-tail, head-to-own-tail
 use Rattle.entries.proofs.lists.move_head.Statement.{statement}
 use Rattle.entries.proofs.lists.move_head.Tie as tie
 
+-- The places that are looked back to.
+abbrev at-start : tie.After-start-of → tie.Start
+at-start c = c .before .before .before
+
+abbrev after-start-of : tie.After-to-end-arg → tie.After-start-of
+after-start-of c = c .before .before .before .before .before
+
+abbrev after-to-end : tie.After-slice-known4 → tie.After-to-end
+after-to-end c = c .before .before
+
+abbrev after-start-of2 : tie.After-slice-known4 → tie.After-start-of2
+after-start-of2 c = after-to-end c .before .before .before .before
+
 to-end-requires : tie.Need-to-end-requires
 to-end-requires c κs =
-    let a = c .before .before .before .before .before .before .before .before .args in
+    let a = at-start (after-start-of c) .args in
     let w = a .dir .now in
     omega (arith, start-of-next w (a .i) (omega arith), starts-in-order w (a .i + 1) (a .j + 1) (omega arith), starts-within w (a .j + 1))
 
 add-dir-2 : tie.Need-add-dir-2
 add-dir-2 c =
-    let a = c .before .before .before .before .before .before .before .before .before .before .before .before .args in
+    let a = at-start (after-start-of2 (c .before) .before .before) .args in
     omega (arith, length-within (a .dir .now) (a .j) (omega arith))
 
 returns : tie.Need-returns
 returns c d e e′ es is front page new =
-    let z = c .before .before .before .before .before .before .before in
+    let z = after-start-of2 (c .before) in
     let a = z .before .before in
-    let s = a .before .before .before in
+    let s = at-start a in
     let x = s .args in
     let h = s .pre .1 in
     head-to-other-tail (x .i) (x .j) d e e′ es (x .dir .now) _ (x .flags) (h .0) (h .1) (h .2) is front page new _ _
-    (a .start-of .ensures) (z .start-of2 .ensures) (c .before .before .before .to-end .ensures) (c .if1 .taken)
+    (a .start-of .ensures) (z .start-of2 .ensures) (after-to-end (c .before) .to-end .ensures) (c .if1 .taken)
 
 returns-2 : tie.Need-returns-2
 returns-2 c d e e′ es is front page new =
-    let z = c .before .before .before .before .before .before .before in
+    let z = after-start-of2 (c .before) in
     let a = z .before .before in
-    let s = a .before .before .before in
+    let s = at-start a in
     let x = s .args in
     let h = s .pre .1 in
     head-to-own-tail (x .i) (x .j) d e e′ es (x .dir .now) _ (x .flags) (h .0) (h .1) (h .2) is front page new _ _
-    (a .start-of .ensures) (z .start-of2 .ensures) (c .before .before .before .to-end .ensures) (c .if1 .left)
+    (a .start-of .ensures) (z .start-of2 .ensures) (after-to-end (c .before) .to-end .ensures) (c .if1 .left)
 
 pub move-head-spec : {M : Type 1} → statement M
 move-head-spec =

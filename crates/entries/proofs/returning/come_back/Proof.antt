@@ -13,6 +13,13 @@ use borrow.Author.Needs.{needs}
 use Rattle.entries.proofs.returning.come_back.Statement.{statement}
 use Rattle.entries.proofs.returning.come_back.Tie as tie
 
+-- The places that are looked back to.
+abbrev after-wide : tie.After-raised → tie.After-wide
+after-wide c = c .before .before .before
+
+abbrev after-wide2 : tie.After-lowered → tie.After-wide2
+after-wide2 c = c .before .before .before
+
 abbrev start : tie.After-find → tie.Start
 start f = f .before .before .before
 
@@ -28,7 +35,7 @@ before-second f = f .before .before .before
 come-back-requires : tie.Need-come-back-requires
 come-back-requires c κs =
     let r = c .before in
-    let f = first (r .before .before .before) in
+    let f = first (after-wide r) in
     let w = start f .args .dir .now in
     let same = length-with-p w (r .raised .result) 2 in
     (room-with-p _ (start f .pre .0 .room), (omega arith, omega arith, omega arith, omega arith))
@@ -37,7 +44,7 @@ same-length : tie.Need-same-length
 same-length c =
     let b = c .before .before in
     let r = b .before .before in
-    let w = start (first (r .before .before .before)) .args .dir .now in
+    let w = start (first (after-wide r)) .args .dir .now in
     b .come-back .kept .0 ∙ length-set w 2 (r .raised .result)
 
 returns : tie.Need-returns
@@ -56,7 +63,7 @@ returns c d e m n is page new b1 b2 =
 come-back-requires-2 : tie.Need-come-back-requires-2
 come-back-requires-2 c κs =
     let r = c .before in
-    let f = first (before-second (second (r .before .before .before))) in
+    let f = first (before-second (second (after-wide2 r))) in
     let w = start f .args .dir .now in
     let same = length-with-p w (r .lowered .result) 3 in
     (room-with-p _ (start f .pre .0 .room), (omega arith, omega arith, omega arith, omega arith))
@@ -65,7 +72,7 @@ same-length-2 : tie.Need-same-length-2
 same-length-2 c =
     let b = c .before .before in
     let r = b .before .before in
-    let w = start (first (before-second (second (r .before .before .before)))) .args .dir .now in
+    let w = start (first (before-second (second (after-wide2 r)))) .args .dir .now in
     b .come-back2 .kept .0 ∙ length-set w 2 (r .lowered .result)
 
 returns-2 : tie.Need-returns-2

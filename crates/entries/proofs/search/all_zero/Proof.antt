@@ -15,19 +15,23 @@ Inv-loop dir a i₀ i = (i ≤ length dir) × (allAtMost 0 (drop a dir) ≡ allA
 abbrev μ-loop : tie.MeasureT-loop
 μ-loop dir a i₀ i = length dir - i
 
+-- The places that are looked back to.
+abbrev at-loop : tie.After-shared-slice-known Inv-loop μ-loop → tie.At-loop Inv-loop μ-loop
+at-loop c = c .before .before
+
 loop-holds : tie.Need-loop-holds Inv-loop μ-loop
 loop-holds c = (omega arith, refl)
 
 returns : tie.Need-returns Inv-loop μ-loop
 returns c =
-    let v = c .before .before .before .loop in
-    let w = c .before .before .before .before .args .dir .now in
+    let v = at-loop (c .before) .loop in
+    let w = at-loop (c .before) .before .args .dir .now in
     sym (v .inv .1 ∙ at-most-not 0 w (v .i) (omega arith) (omega (arith, c .if1 .taken)))
 
 loop-again : tie.Need-loop-again Inv-loop μ-loop
 loop-again c =
-    let v = c .before .before .before .loop in
-    let w = c .before .before .before .before .args .dir .now in
+    let v = at-loop (c .before) .loop in
+    let w = at-loop (c .before) .before .args .dir .now in
     (omega arith, v .inv .1 ∙ at-most-later 0 w (v .i) (omega arith) (omega arith))
 
 returns-2 : tie.Need-returns-2 Inv-loop μ-loop

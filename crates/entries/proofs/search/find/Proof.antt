@@ -19,13 +19,17 @@ Inv-loop dir a n page i₀ i =
 abbrev μ-loop : tie.MeasureT-loop
 μ-loop dir a n page i₀ i = n - i
 
+-- The places that are looked back to.
+abbrev at-loop : tie.After-shared-slice-known Inv-loop μ-loop → tie.At-loop Inv-loop μ-loop
+at-loop c = c .before .before
+
 loop-holds : tie.Need-loop-holds Inv-loop μ-loop
 loop-holds c = (omega arith, λ l h q. omega arith)
 
 returns : tie.Need-returns Inv-loop μ-loop
 returns c =
-    let v = c .before .before .before .loop in
-    let x = c .before .before .before .before .args .page in (
+    let v = at-loop (c .before) .loop in
+    let x = at-loop (c .before) .before .args .page in (
       omega arith,
       λ P R l is p q.
           let h : Held _ _ l = held P R is p in
@@ -34,8 +38,8 @@ returns c =
 
 loop-again : tie.Need-loop-again Inv-loop μ-loop
 loop-again c =
-    let v = c .before .before .before .loop in
-    let x = c .before .before .before .before .args .page in (
+    let v = at-loop (c .before) .loop in
+    let x = at-loop (c .before) .before .args .page in (
       omega arith,
       λ l h q. omega (arith, v .inv .1 l h q, index-later (entry-at h (v .i) (omega arith)) x (c .if1 .left)),
     )

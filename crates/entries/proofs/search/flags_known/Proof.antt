@@ -16,21 +16,25 @@ Inv-loop dir n i₀ i = (i ≤ n) × (allAtMost mostFlags (flagsOf n dir) ≡ al
 abbrev μ-loop : tie.MeasureT-loop
 μ-loop dir n i₀ i = n - i
 
+-- The places that are looked back to.
+abbrev at-loop : tie.After-shared-slice-known Inv-loop μ-loop → tie.At-loop Inv-loop μ-loop
+at-loop c = c .before .before
+
 loop-holds : tie.Need-loop-holds Inv-loop μ-loop
 loop-holds c = (omega arith, refl)
 
 returns : tie.Need-returns Inv-loop μ-loop
 returns c =
-    let v = c .before .before .before .loop in
-    let x = c .before .before .before .before .args in
+    let v = at-loop (c .before) .loop in
+    let x = at-loop (c .before) .before .args in
     let many = length-flags (x .n) (x .dir .now) (omega arith) in
     let word = flag-at (x .n) (x .dir .now) (v .i) (omega arith) in
     sym (v .inv .1 ∙ at-most-not mostFlags (flagsOf (x .n) (x .dir .now)) (v .i) (omega arith) (omega arith))
 
 loop-again : tie.Need-loop-again Inv-loop μ-loop
 loop-again c =
-    let v = c .before .before .before .loop in
-    let x = c .before .before .before .before .args in
+    let v = at-loop (c .before) .loop in
+    let x = at-loop (c .before) .before .args in
     let many = length-flags (x .n) (x .dir .now) (omega arith) in
     let word = flag-at (x .n) (x .dir .now) (v .i) (omega arith) in
     (omega arith, v .inv .1 ∙ at-most-later mostFlags (flagsOf (x .n) (x .dir .now)) (v .i) (omega arith) (omega arith))

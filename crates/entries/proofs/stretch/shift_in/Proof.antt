@@ -15,21 +15,25 @@ Inv-loop s₀ x n held₀ i₀ s held i = (i ≤ n) × (n ≡ length s₀) × (h
 abbrev μ-loop : tie.MeasureT-loop
 μ-loop s₀ x n held₀ i₀ s held i = n - i
 
+-- The places that are looked back to.
+abbrev at-loop : tie.After-slice-known Inv-loop μ-loop → tie.At-loop Inv-loop μ-loop
+at-loop c = c .before .before
+
 loop-holds : tie.Need-loop-holds Inv-loop μ-loop
 loop-holds c = (omega arith, omega arith, refl, over-none _ _, refl)
 
 loop-again : tie.Need-loop-again Inv-loop μ-loop
 loop-again c =
-    let i = c .before .before .loop .i in
-    let v = c .before .before .loop .inv in
-    let l = c .before .before .before .args .s .now in
-    let x = c .before .before .before .args .x in
+    let i = at-loop c .loop .i in
+    let v = at-loop c .loop .inv in
+    let l = at-loop c .before .args .s .now in
+    let x = at-loop c .before .args .x in
     let h : suc i ≤ length l = omega arith in
     let y : suc i ≤ length (x ∷ l) = omega arith in (
       omega arith,
       refl,
       ap (λ (r : List ℕ). getD r i 0) (v .3) ∙ over-read (x ∷ l) l i y h ∙ sym (ap (λ (k : ℕ). getD (x ∷ l) k 0) (add-one i)),
-      ap (λ (r : List ℕ). set r i (c .before .before .loop .held)) (v .3) ∙ ap (λ (k : ℕ). set (over (x ∷ l) l i) i k) (v .2) ∙ over-more (x ∷ l) l i y h,
+      ap (λ (r : List ℕ). set r i (at-loop c .loop .held)) (v .3) ∙ ap (λ (k : ℕ). set (over (x ∷ l) l i) i k) (v .2) ∙ over-more (x ∷ l) l i y h,
       simp length-set (v .4),
     )
 

@@ -8,14 +8,18 @@ use borrow.Author.Needs.{needs}
 use Rattle.entries.proofs.stretch.take_out.Statement.{statement}
 use Rattle.entries.proofs.stretch.take_out.Tie as tie
 
+-- The places that are looked back to.
+abbrev at-start : tie.After-slice-known2 → tie.Start
+at-start c = c .before .before .before .before .before
+
 same-length : tie.Need-same-length
 same-length c =
-    let s = c .before .before .before .before .before .args in
+    let s = at-start c .args in
     c .before .before .to-end .kept .0 ∙ length-set (s .dir .now) (s .a) 0
 
 returns : tie.Need-returns
 returns c P M R h f is p q =
-    let a = c .before .before .before .before .before .args .a in
+    let a = at-start c .args .a in
     c .before .before .to-end .ensures P M R 0 f (ap (λ (l : List ℕ). set l a 0) is ∙ set-at P h (f ∷ (M ++ R)) 0 a p) p q
 
 pub take-out-spec : {M : Type 1} → statement M

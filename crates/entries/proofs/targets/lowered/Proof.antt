@@ -5,11 +5,15 @@ use borrow.Author.Needs.{needs}
 use Rattle.entries.proofs.targets.lowered.Statement.{statement}
 use Rattle.entries.proofs.targets.lowered.Tie as tie
 
+-- The places that are looked back to.
+abbrev at-start : tie.After-shared-slice-known3 → tie.Start
+at-start c = c .before .before .before .before .before
+
 returns : tie.Need-returns
-returns c d is = omega (arith, lowered-read d is (c .before .before .before .before .before .before .args .dividend))
+returns c d is = omega (arith, lowered-read d is (at-start (c .before) .args .dividend))
 
 returns-2 : tie.Need-returns-2
-returns-2 c d is = omega (arith, lowered-read d is (c .before .before .before .before .before .before .args .dividend))
+returns-2 c d is = omega (arith, lowered-read d is (at-start (c .before) .args .dividend))
 
 pub lowered-spec : {M : Type 1} → statement M
 lowered-spec =
