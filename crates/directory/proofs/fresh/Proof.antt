@@ -13,6 +13,16 @@ use borrow.Author.Needs.{needs}
 use Rattle.directory.proofs.fresh.Statement.{statement}
 use Rattle.directory.proofs.fresh.Tie as tie
 
+-- The places that are looked back to.
+abbrev at-start : tie.Else2 → tie.Start
+at-start c = c .before .before .before .before .before
+
+abbrev in-else1 : tie.Then3 → tie.Else1
+in-else1 c = c .before .before .before .before
+
+abbrev in-else2 : tie.After-slice-known2 → tie.Else2
+in-else2 c = c .before .before .before .before .before .before
+
 returns : tie.Need-returns
 returns c = fresh-policy _ _ _ (sym (c .before .known-policy .ensures) ∙ not-true _ (c .if1 .taken))
 
@@ -22,20 +32,20 @@ policy c = sym (c .before .known-policy .ensures) ∙ not-false _ (c .if1 .left)
 returns-2 : tie.Need-returns-2
 returns-2 c = fresh-size _ _ _ (policy (c .before .before)) (sym (c .before .known-size .ensures) ∙ not-true _ (c .if2 .taken))
 
-sized : (c : tie.Else2) → knownSize (c .before .before .before .before .before .args .c) ≡ true
+sized : (c : tie.Else2) → knownSize (at-start c .args .c) ≡ true
 sized c = sym (c .before .known-size .ensures) ∙ not-false _ (c .if2 .left)
 
 returns-3 : tie.Need-returns-3
 returns-3 c =
-    fresh-length _ _ _ (policy (c .before .before .before .before)) (sized (c .before .before)) (λ is. c .if3 .taken (omega arith))
+    fresh-length _ _ _ (policy (in-else1 c)) (sized (c .before .before)) (λ is. c .if3 .taken (omega arith))
 
 slice-write-dir-2 : tie.Need-slice-write-dir-2
 slice-write-dir-2 c = simp length-set (omega arith)
 
 returns-4 : tie.Need-returns-4
 returns-4 c =
-    let e = c .before .before .before .before .before .before in
-    let a = e .before .before .before .before .before .args in
+    let e = in-else2 c in
+    let a = at-start e .args in
     let exact : ∣ a .dir .now ∣ ≡ 8 + 4 * a .c = omega arith in
     let cleared : c .before .before .clear .last .0 ≡ replicate (8 + 4 * a .c) 0 = rw exact at (c .before .before .clear .ensures) in
     fresh-accepted _ _ _ (policy (e .before .before)) (sized e) exact _ (rw cleared (fresh-words (a .policy) (a .c)))

@@ -17,20 +17,30 @@ Inv-loop dir₀ trace answers₀ t₀ i₀ dir answers t i =
 abbrev μ-loop : tie.MeasureT-loop
 μ-loop dir₀ trace answers₀ t₀ i₀ dir answers t i = length trace - i
 
+-- The places that are looked back to.
+abbrev at-start : tie.After-no-tally Inv-loop μ-loop → tie.Start Inv-loop μ-loop
+at-start c = c .before .before .before .before
+
+abbrev at-loop : tie.After-step-arg2 Inv-loop μ-loop → tie.At-loop Inv-loop μ-loop
+at-loop c = c .before .before .before .before
+
+abbrev after-step : tie.After-slice-known4 Inv-loop μ-loop → tie.After-step Inv-loop μ-loop
+after-step c = c .before .before .before .before
+
 loop-holds : tie.Need-loop-holds Inv-loop μ-loop
 loop-holds c =
-    let s = c .before .before .before .before in
+    let s = at-start c in
     (begins (s .args .dir .now) (s .args .trace .now) (s .args .answers .now) (s .pre .0) _ (c .no-tally .ensures), refl, refl)
 
 step-requires : tie.Need-step-requires Inv-loop μ-loop
 step-requires c κs =
-    let m = c .before .before .before .before .loop .inv .0 in
+    let m = at-loop c .loop .inv .0 in
     (m .ready, (omega arith, within-small (m .within) (omega arith)))
 
 loop-again : tie.Need-loop-again Inv-loop μ-loop
 loop-again c =
-    let t = c .before .before .before .before in
-    let l = t .before .before .before .before .before in
+    let t = after-step c in
+    let l = at-loop (t .before) in
     (goes-on _ _ _ (l .loop .inv .0) (omega arith) (omega arith) (t .step .ensures), omega arith, omega arith)
 
 same-length : tie.Need-same-length Inv-loop μ-loop

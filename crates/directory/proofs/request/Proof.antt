@@ -7,19 +7,29 @@ use Rattle.directory.proofs.Requesting.{accepted-sound, requested-refus
 use Rattle.directory.proofs.request.Statement.{statement}
 use Rattle.directory.proofs.request.Tie as tie
 
+-- The places that are looked back to.
+abbrev at-start : tie.After-serve-arg → tie.Start
+at-start c = c .before .before .before .before .before
+
+abbrev after-slice-known : tie.Then1 → tie.After-slice-known
+after-slice-known c = c .before .before .before
+
+abbrev after-serve-arg : tie.After-slice-known2 → tie.After-serve-arg
+after-serve-arg c = c .before .before .before
+
 returns : tie.Need-returns
 returns c =
-    let s = c .before .before .before .before in
+    let s = after-slice-known c .before in
     requested-refused (s .args .dir .now) (s .args .page) _ (c .before .check .ensures .number-is) (λ none. omega arith)
 
 serve-requires : tie.Need-serve-requires
 serve-requires c κs =
-    ready _ (accepted-sound (c .before .before .before .before .before .args .dir .now) (sym (c .before .before .check .ensures .number-is) ∙ omega arith))
+    ready _ (accepted-sound (at-start c .args .dir .now) (sym (c .before .before .check .ensures .number-is) ∙ omega arith))
 
 returns-2 : tie.Need-returns-2
 returns-2 c =
-    let s = c .before .before .before .before .before .before .before .before in
-    let accepted = c .before .before .before .before .before .check .ensures .number-is in
+    let s = at-start (after-serve-arg c) in
+    let accepted = after-serve-arg c .before .before .check .ensures .number-is in
     requested-served (s .args .dir .now) (s .args .page) _ accepted (omega arith) _ _ (c .before .before .serve .ensures .0)
 
 pub request-spec : {M : Type 1} → statement M

@@ -8,6 +8,16 @@ use Rattle.directory.proofs.Running.{run-refused, run-too-many, run-sho
 use Rattle.directory.proofs.run.Statement.{statement}
 use Rattle.directory.proofs.run.Tie as tie
 
+-- The places that are looked back to.
+abbrev after-check : tie.After-replay-arg2 → tie.After-check
+after-check c = c .before .before .before .before .before
+
+abbrev in-else1 : tie.After-no-tally3 → tie.Else1
+in-else1 c = c .before .before .before
+
+abbrev after-replay : tie.After-slice-known4 → tie.After-replay
+after-replay c = c .before .before .before .before
+
 returns : tie.Need-returns
 returns c = run-refused _ _ _ _ (c .before .before .check .ensures .number-is) (c .before .if1 .taken) _ (c .no-tally .ensures)
 
@@ -18,18 +28,18 @@ returns-2 c =
 
 returns-3 : tie.Need-returns-3
 returns-3 c =
-    let k = c .before .before .before .before in
+    let k = in-else1 c .before in
     run-short _ _ _ _ (k .check .ensures .number-is) (omega arith) (omega arith) (omega arith) _ (c .no-tally3 .ensures)
 
 replay-requires : tie.Need-replay-requires
 replay-requires c κs =
-    let k = c .before .before .before .before .before in
+    let k = after-check c in
     (ready _ (accepted-sound _ (sym (k .check .ensures .number-is) ∙ omega arith)), (omega arith, omega arith))
 
 returns-4 : tie.Need-returns-4
 returns-4 c =
-    let r = c .before .before .before .before in
-    let k = r .before .before .before .before .before .before in
+    let r = after-replay c in
+    let k = after-check (r .before) in
     run-served _ _ _ _ (k .check .ensures .number-is) (omega arith) (omega arith) (omega arith) (r .replay .ensures)
 
 pub run-spec : {M : Type 1} → statement M

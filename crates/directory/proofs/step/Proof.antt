@@ -10,23 +10,30 @@ use Rattle.directory.proofs.Replaying.{moves-counted}
 use Rattle.directory.proofs.step.Statement.{statement}
 use Rattle.directory.proofs.step.Tie as tie
 
+-- The places that are looked back to.
+abbrev at-start : tie.After-serve → tie.Start
+at-start c = c .before .before .before .before
+
+abbrev after-serve : tie.After-put-answer → tie.After-serve
+after-serve c = c .before .before .before .before
+
 counted-requires : tie.Need-counted-requires
 counted-requires c κs =
-    let v = c .before .before .before .before .before .before in
-    let s = v .before .before .before .before in
+    let v = after-serve (c .before .before) in
+    let s = at-start v in
     let told = v .serve .ensures .0 in
     (s .pre .1 .1, omega (arith, told .moves-is, moves-counted (s .pre .0) (s .args .page)))
 
 returns : tie.Need-returns
 returns c =
     let p = c .before .before .before in
-    let v = p .before .before .before .before in
-    let s = v .before .before .before .before in
+    let v = after-serve p in
+    let s = at-start v in
     let told = v .serve .ensures .0 in
     record {
       tally-is = ap defined (c .counted .ensures) ∙ noted-defined (s .args .t) (v .serve .result) (request (s .args .page) (decode (s .args .dir .now))) (told .kind-is) (told .moves-is);
       shown = told .shown;
-      answers-are = rw (told .kind-is, told .page-is, told .list-is, told .moves-is) at (p .put-answer .ensures);
+      answers-are = cc (p .put-answer .ensures, told .kind-is, told .page-is, told .list-is, told .moves-is);
       ready-again = v .serve .ensures .1;
     }
 
