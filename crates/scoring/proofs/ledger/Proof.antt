@@ -5,10 +5,20 @@ use Rattle.scoring.proofs.Lending.{lent, short-answers, sheet-answers}
 use Rattle.scoring.proofs.ledger.Statement.{statement}
 use Rattle.scoring.proofs.ledger.Tie as tie
 
+-- The places that are looked back to.
+abbrev at-start : tie.After-lends-enough → tie.Start
+at-start c = c .before .before .before .before .before .before .before .before .before .before
+
+abbrev in-else1 : tie.After-ledger-sheet-arg4 → tie.Else1
+in-else1 c = c .before .before .before .before
+
+abbrev after-ledger-sheet : tie.After-slice-known8 → tie.After-ledger-sheet
+after-ledger-sheet c = c .before .before .before .before .before .before .before .before
+
 returns : tie.Need-returns
 returns c =
     let told = c .before .before in
-    let a = told .before .before .before .before .before .before .before .before .before .before .args in
+    let a = at-start told .args in
     short-answers
     256256
     (a .pages .now)
@@ -24,14 +34,14 @@ returns c =
 
 ledger-sheet-requires : tie.Need-ledger-sheet-requires
 ledger-sheet-requires c κs =
-    let enough = c .before .before .before .before in
+    let enough = in-else1 c in
     lent 256256 _ _ _ _ _ (enough .before .lends-enough .ensures) (enough .if1 .left)
 
 returns-2 : tie.Need-returns-2
 returns-2 c =
-    let answered = c .before .before .before .before .before .before .before .before in
-    let enough = answered .before .before .before .before .before in
-    let a = enough .before .before .before .before .before .before .before .before .before .before .before .args in
+    let answered = after-ledger-sheet c in
+    let enough = in-else1 (answered .before) in
+    let a = at-start (enough .before) .args in
     sheet-answers
     256256
     (a .pages .now)

@@ -7,13 +7,23 @@ use Rattle.scoring.proofs.Ledgering.{requests-ready, sheet-ledgered}
 use Rattle.scoring.proofs.ledger_sheet.Statement.{statement}
 use Rattle.scoring.proofs.ledger_sheet.Tie as tie
 
+-- The places that are looked back to.
+abbrev at-start : tie.After-score-sheet-arg4 → tie.Start
+at-start c = c .before .before .before .before .before .before .before .before .before
+
+abbrev after-pages : tie.After-out → tie.After-pages
+after-pages c = c .before .before .before .before .before .before
+
+abbrev after-out : tie.After-put-requests-arg3 → tie.After-out
+after-out c = c .before .before .before .before .before
+
 slice-aggregate-score-sheet : tie.Need-slice-aggregate-score-sheet
 slice-aggregate-score-sheet c =
-    let start = c .before .before .before .before .before .before .before .before .before in sym (length-take-le 256 (start .args .out .now) (omega (arith, start .pre .out-fits)))
+    let start = at-start c in sym (length-take-le 256 (start .args .out .now) (omega (arith, start .pre .out-fits)))
 
 score-sheet-requires : tie.Need-score-sheet-requires
 score-sheet-requires c κs =
-    let start = c .before .before .before .before .before .before .before .before .before in
+    let start = at-start c in
     let h = start .pre in
     record {
       pages-fit = h .pages-fit;
@@ -30,9 +40,9 @@ slice-aggregate-put-requests-2 c = sym (length-take-le _ _ (omega arith))
 
 put-requests-requires : tie.Need-put-requests-requires
 put-requests-requires c κs =
-    let back = c .before .before .before .before .before in
-    let answered = back .before .before .before .before .before .before .before in
-    let start = answered .before .before .before .before .before .before .before .before .before .before in
+    let back = after-out c in
+    let answered = after-pages back .before in
+    let start = at-start (answered .before) in
     let a = start .args in
     requests-ready
     (a .sheet .now)
@@ -43,15 +53,15 @@ put-requests-requires c κs =
     (start .pre)
     (answered .score-sheet .ensures)
     (back .out .given .0)
-    (back .before .before .before .before .before .before .pages .given)
+    (after-pages back .pages .given)
     (back .before .before .answers .given)
 
 returns : tie.Need-returns
 returns c =
     let put = c .before .before in
-    let back = put .before .before .before .before .before .before in
-    let answered = back .before .before .before .before .before .before .before in
-    let start = answered .before .before .before .before .before .before .before .before .before .before in
+    let back = after-out (put .before) in
+    let answered = after-pages back .before in
+    let start = at-start (answered .before) in
     let a = start .args in
     sheet-ledgered
     (a .sheet .now)

@@ -7,24 +7,31 @@ use Rattle.scoring.proofs.Scoring.{fitting, bid-scored}
 use Rattle.scoring.proofs.score_bid.Statement.{statement}
 use Rattle.scoring.proofs.score_bid.Tie as tie
 
+-- The places that are looked back to.
+abbrev at-start : tie.After-replay-arg → tie.Start
+at-start c = c .before .before .before .before .before .before .before
+
+abbrev after-dir : tie.After-write → tie.After-dir
+after-dir c = c .before .before .before .before .before .before
+
 slice-aggregate-replay : tie.Need-slice-aggregate-replay
 slice-aggregate-replay c =
-    let h = c .before .before .before .before .before .before .before .pre in sym (length-take-le _ _ (omega (arith, h .few, h .lent .pages-fit)))
+    let h = at-start c .pre in sym (length-take-le _ _ (omega (arith, h .few, h .lent .pages-fit)))
 
 slice-aggregate-replay-2 : tie.Need-slice-aggregate-replay-2
 slice-aggregate-replay-2 c =
-    let h = c .before .before .before .before .before .before .before .before .pre in
+    let h = at-start (c .before) .pre in
     sym (length-take-le _ _ (omega (arith, h .size-known .1, h .lent .dir-fits)))
 
 replay-requires : tie.Need-replay-requires
-replay-requires c κs = fitting (c .before .before .before .before .before .before .before .before .before .pre)
+replay-requires c κs = fitting (at-start (c .before .before) .pre)
 
 returns : tie.Need-returns
 returns c =
     let written = c .before .before in
-    let back = written .before .before .before .before .before .before in
+    let back = after-dir written in
     let replayed = back .before in
-    let start = replayed .before .before .before .before .before .before .before .before .before .before in
+    let start = at-start (replayed .before .before .before) in
     bid-scored
     (start .pre)
     (replayed .replay .ensures)
