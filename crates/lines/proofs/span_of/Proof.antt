@@ -20,6 +20,22 @@ Inv-loop sheet line n₀ at₀ n at =
 abbrev μ-loop : tie.MeasureT-loop
 μ-loop sheet line n₀ at₀ n at = line + 1 - n
 
+-- The places that are looked back to.
+abbrev at-start : tie.At-loop Inv-loop μ-loop → tie.Start Inv-loop μ-loop
+at-start c = c .before .before .before
+
+abbrev in-loop : tie.After-refused2 Inv-loop μ-loop → tie.In-loop Inv-loop μ-loop
+in-loop c = c .before .before .before .before
+
+abbrev after-line-at : tie.After-known-told Inv-loop μ-loop → tie.After-line-at Inv-loop μ-loop
+after-line-at c = c .before .before .before
+
+abbrev at-loop : tie.After-known-told Inv-loop μ-loop → tie.At-loop Inv-loop μ-loop
+at-loop c = after-line-at c .before .before
+
+abbrev after-known-told : tie.After-value-in Inv-loop μ-loop → tie.After-known-told Inv-loop μ-loop
+after-known-told c = c .before .before
+
 returns : tie.Need-returns Inv-loop μ-loop
 returns c =
     let a = c .before .before .before .args in
@@ -33,9 +49,9 @@ loop-holds c =
 
 returns-2 : tie.Need-returns-2 Inv-loop μ-loop
 returns-2 c =
-    let a = c .before .before .before .before .before .before .before .before .args in
+    let a = at-start (in-loop c .before) .args in
     let s = a .sheet .now in
-    let v = c .before .before .before .before .before .loop in
+    let v = in-loop c .before .loop in
     let at = c .before .before .before .line-at .ensures in
     let none = missing-line s (v .at) (sym at ∙ c .before .enum-told .given .1) in
     let nowhere = v .inv .3 ∙ in-no-line s (v .at) (a .line + 1 - v .n) none in
@@ -43,36 +59,36 @@ returns-2 c =
 
 value-in-requires : tie.Need-value-in-requires Inv-loop μ-loop
 value-in-requires c κs =
-    let s = c .before .before .before .before .before .before .before .before .before .args .sheet .now in
-    let at = c .before .before .before .before .line-at .ensures in
+    let s = at-start (at-loop (c .before)) .args .sheet .now in
+    let at = after-line-at (c .before) .line-at .ensures in
     let closed = closed-line s _ _ (sym at ∙ c .before .before .end .given .1) in
     (closed .from, omega (arith, closed .inside))
 
 returns-3 : tie.Need-returns-3 Inv-loop μ-loop
 returns-3 c =
-    let a = c .before .before .before .before .before .before .before .before .before .before .args in
+    let a = at-start (at-loop (after-known-told c)) .args in
     let s = a .sheet .now in
-    let v = c .before .before .before .before .before .before .before .loop in
-    let at = c .before .before .before .before .before .line-at .ensures in
-    let closed = closed-line s (v .at) _ (sym at ∙ c .before .before .before .end .given .1) in
+    let v = at-loop (after-known-told c) .loop in
+    let at = after-line-at (after-known-told c) .line-at .ensures in
+    let closed = closed-line s (v .at) _ (sym at ∙ after-known-told c .before .end .given .1) in
     let last : a .line + 1 - v .n ≡ 1 = omega (arith, c .before .if2 .taken) in
     let here = v .inv .3 ∙ ap (valueFrom s (v .at)) last ∙ in-this-line s (v .at) _ closed in
     looked-up s (a .line) (v .inv .2) here (c .value-in .ensures)
 
 add-at : tie.Need-add-at Inv-loop μ-loop
 add-at c =
-    let s = c .before .before .before .before .before .before .before .before .before .args .sheet .now in
-    let v = c .before .before .before .before .before .before .loop in
-    let at = c .before .before .before .before .line-at .ensures in
+    let s = at-start (at-loop (c .before)) .args .sheet .now in
+    let v = at-loop (c .before) .loop in
+    let at = after-line-at (c .before) .line-at .ensures in
     let closed = closed-line s (v .at) _ (sym at ∙ c .before .before .end .given .1) in
     omega (arith, closed .inside, v .inv .2)
 
 loop-again : tie.Need-loop-again Inv-loop μ-loop
 loop-again c =
-    let a = c .before .before .before .before .before .before .before .before .before .args in
+    let a = at-start (at-loop (c .before)) .args in
     let s = a .sheet .now in
-    let v = c .before .before .before .before .before .before .loop in
-    let at = c .before .before .before .before .line-at .ensures in
+    let v = at-loop (c .before) .loop in
+    let at = after-line-at (c .before) .line-at .ensures in
     let stop = c .before .before .end .given .0 .0 in
     let closed = closed-line s (v .at) stop (sym at ∙ c .before .before .end .given .1) in
     let left = a .line - (v .n + 1) in
@@ -84,7 +100,7 @@ loop-again c =
 
 returns-4 : tie.Need-returns-4 Inv-loop μ-loop
 returns-4 c =
-    let a = c .before .before .before .before .before .args in
+    let a = at-start (c .before .before) .args in
     let s = a .sheet .now in
     let v = c .before .before .loop in
     let none : a .line + 1 - v .n ≡ 0 = omega arith in

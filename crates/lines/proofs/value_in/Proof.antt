@@ -12,24 +12,28 @@ use Rattle.lines.proofs.Spans.{value-here, no-value, span-between, span
 use Rattle.lines.proofs.value_in.Statement.{statement}
 use Rattle.lines.proofs.value_in.Tie as tie
 
+-- The places that are looked back to.
+abbrev at-start : tie.After-find → tie.Start
+at-start c = c .before .before
+
 -- The place that `find` answers.
-first : (c : tie.After-find) → let a = c .before .before .args in
+first : (c : tie.After-find) → let a = at-start c .args in
     c .find .result ≡ a .at + indexOf equalsSign (take (a .end - a .at) (drop (a .at) (a .sheet .now)))
 first c =
-    let a = c .before .before .args in
+    let a = at-start c .args in
     c .find .ensures .0 ∙ ap (λ (s : List ℕ). a .at + indexOf equalsSign s) (part-is (a .at) (a .end) (a .sheet .now))
 
 returns : tie.Need-returns
 returns c =
     let f = c .before in
-    let a = f .before .before .args in
+    let a = at-start f .args in
     span-between (a .sheet .now) (f .find .result + 1) (a .end) (omega arith) (omega arith)
     (value-here (a .sheet .now) (a .at) (a .end) (omega arith) (omega arith) _ (first f) (omega arith))
 
 returns-2 : tie.Need-returns-2
 returns-2 c =
     let f = c .before .before in
-    let a = f .before .before .args in
+    let a = at-start f .args in
     span-nowhere (a .sheet .now) (c .refused .ensures)
     (no-value (a .sheet .now) (a .at) (a .end) (omega arith) (omega arith) _ (first f) (omega arith))
 

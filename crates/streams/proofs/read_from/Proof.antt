@@ -17,48 +17,58 @@ Inv-loop fd what buf₀ at₀ tries₀ buf at tries = SoFar buf₀ at buf
 abbrev μ-loop : tie.MeasureT-loop
 μ-loop fd what buf₀ at₀ tries₀ buf at tries = length buf - at + tries
 
+-- The places that are looked back to.
+abbrev at-loop : tie.After-read-once Inv-loop μ-loop → tie.At-loop Inv-loop μ-loop
+at-loop c = c .before .before .before .before
+
+abbrev after-read-once : tie.After-slice-known2 Inv-loop μ-loop → tie.After-read-once Inv-loop μ-loop
+after-read-once c = c .before .before
+
+abbrev after-slice-known2 : tie.After-known-told Inv-loop μ-loop → tie.After-slice-known2 Inv-loop μ-loop
+after-slice-known2 c = c .before .before .before
+
 add-at : tie.Need-add-at Inv-loop μ-loop
 add-at c =
-    let after-read = c .before .before .before .before .before in
+    let after-read = after-read-once (after-slice-known2 c) in
     let one = read-as (c .before .got .given .1) (after-read .read-once .ensures) in
     search needs
 
 loop-less : tie.Need-loop-less Inv-loop μ-loop
 loop-less c =
-    let after-read = c .before .before .before .before .before in
+    let after-read = after-read-once (after-slice-known2 c) in
     let one = read-as (c .before .got .given .1) (after-read .read-once .ensures) in
     omega (arith, one .some, one .fits, one .as-long)
 
 loop-again : tie.Need-loop-again Inv-loop μ-loop
 loop-again c =
-    let after-read = c .before .before .before .before .before in
-    let in-loop = after-read .before .before .before .before in
+    let after-read = after-read-once (after-slice-known2 c) in
+    let in-loop = at-loop after-read in
     let one = read-as (c .before .got .given .1) (after-read .read-once .ensures) in
     one-more (in-loop .loop .inv) (Bytes _) tt one
 
 ended : tie.Need-returns Inv-loop μ-loop
 ended c =
-    let after-read = c .before .before .before .before in
-    let in-loop = after-read .before .before .before .before in
+    let after-read = after-read-once (c .before .before) in
+    let in-loop = at-loop after-read in
     found-end (in-loop .loop .inv) (read-as (c .enum-told .given .1) (after-read .read-once .ensures))
 
 interrupted-less : tie.Need-loop-less-2 Inv-loop μ-loop
 interrupted-less c =
-    let after-read = c .before .before .before .before in
+    let after-read = after-read-once (c .before .before) in
     let at-test = after-read .before .before in
     let left = ltb-true 0 (at-test .before .before .loop .tries) (at-test .if1 .taken) in
     omega (arith, left, after-read .read-once .ensures .as-long)
 
 interrupted-again : tie.Need-loop-again-2 Inv-loop μ-loop
 interrupted-again c =
-    let after-read = c .before .before .before .before in
-    let in-loop = after-read .before .before .before .before in
+    let after-read = after-read-once (c .before .before) in
+    let in-loop = at-loop after-read in
     none-more (in-loop .loop .inv) (read-as (c .enum-told2 .given .1) (after-read .read-once .ensures))
 
 read-failed : tie.Need-returns-2 Inv-loop μ-loop
 read-failed c =
-    let after-read = c .before .before .before .before .before in
-    let in-loop = after-read .before .before .before .before in
+    let after-read = after-read-once (c .before .before .before) in
+    let in-loop = at-loop after-read in
     handed-nothing _ _ (c .failed .ensures) (after-read .read-once .ensures .as-long ∙ in-loop .loop .inv .as-long)
 
 pub read-from-spec : {M : Type 1} → statement M

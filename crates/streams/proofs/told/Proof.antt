@@ -8,6 +8,10 @@ use Rattle.streams.proofs.Answers.{counted, tells-end, tells-bytes, tel
 use Rattle.streams.proofs.told.Statement.{statement}
 use Rattle.streams.proofs.told.Tie as tie
 
+-- The places that are looked back to.
+abbrev at-start : tie.After-count → tie.Start
+at-start c = c .before .before .before
+
 end : tie.Need-returns
 end c =
     let at-entry = c .before .before in
@@ -16,16 +20,16 @@ end c =
 bytes : tie.Need-returns-2
 bytes c =
     let after-count = c .before in
-    let at-entry = after-count .before .before .before in
+    let at-entry = at-start after-count in
     tells-bytes (at-entry .args .got) _ _ (at-entry .pre)
     (counted _ _ _ (at-entry .fits .got) (after-count .count .ensures .1))
     (λ none. c .if2 .taken (omega (arith, none)))
 
 -- An answer that is not 0 and moved nothing is a failure, of either kind.
-failure : (c : tie.Else2) (r : Got) → IsFailure r → ReadTells (c .before .before .before .before .args .got) r
+failure : (c : tie.Else2) (r : Got) → IsFailure r → ReadTells (at-start (c .before) .args .got) r
 failure c r is-failure =
     let after-count = c .before in
-    let at-entry = after-count .before .before .before in
+    let at-entry = at-start after-count in
     tells-failure (at-entry .args .got) _ _ r is-failure (at-entry .pre)
     (counted _ _ _ (at-entry .fits .got) (after-count .count .ensures .1))
     (omega (arith, c .if2 .left)) (λ is. after-count .before .if1 .left (omega (arith, is)))

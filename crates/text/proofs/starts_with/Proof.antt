@@ -16,6 +16,13 @@ Inv-loop bytes key i₀ i =
 abbrev μ-loop : tie.MeasureT-loop
 μ-loop bytes key i₀ i = length key - i
 
+-- The places that are looked back to.
+abbrev at-start : tie.At-loop Inv-loop μ-loop → tie.Start Inv-loop μ-loop
+at-start c = c .before .before
+
+abbrev at-loop : tie.After-shared-slice-known2 Inv-loop μ-loop → tie.At-loop Inv-loop μ-loop
+at-loop c = c .before .before .before
+
 returns : tie.Need-returns Inv-loop μ-loop
 returns c = sym (short-lacks (c .before .args .key .now) (c .before .args .bytes .now) (c .if1 .taken))
 
@@ -24,21 +31,21 @@ loop-holds c = (omega arith, omega arith, refl)
 
 returns-2 : tie.Need-returns-2 Inv-loop μ-loop
 returns-2 c =
-    let v = c .before .before .before .before .loop in
-    let a = c .before .before .before .before .before .before .args in
+    let v = at-loop (c .before) .loop in
+    let a = at-start (at-loop (c .before)) .args in
     sym (v .inv .2 ∙ key-differs (a .key .now) (a .bytes .now) (v .i) (omega arith) (omega arith) (c .if2 .taken))
 
 loop-again : tie.Need-loop-again Inv-loop μ-loop
 loop-again c =
-    let v = c .before .before .before .before .loop in
-    let a = c .before .before .before .before .before .before .args in
+    let v = at-loop (c .before) .loop in
+    let a = at-start (at-loop (c .before)) .args in
     let goes-on = key-goes-on (a .key .now) (a .bytes .now) (v .i) (omega arith) (omega arith) (c .if2 .left) in
     (omega arith, v .inv .1, v .inv .2 ∙ goes-on)
 
 returns-3 : tie.Need-returns-3 Inv-loop μ-loop
 returns-3 c =
     let v = c .before .loop in
-    let a = c .before .before .before .args in
+    let a = at-start (c .before) .args in
     let ended = drop-of-length-le (a .key .now) {i = v .i} (omega arith) in
     sym (v .inv .2 ∙ ap (λ k. starts k (drop (v .i) (a .bytes .now))) ended)
 
