@@ -1,8 +1,9 @@
--- A look at a set bit turns the head, and the repeat goes on as the choice ensures; one at a clear bit is its last. Set bits fall.
+-- A look at a set bit turns the head, and the repeat goes on as the choice ensures; one at a clear bit is its last.
+-- The measure is twice the set bits, and one more at the choice.
 use borrow.Author.Needs.{needs}
-use Prim.Native.Nat.{ℕ, _+_, _*_, _<_}
+use Prim.Native.Nat.{ℕ, _+_, _*_, _≤_, _<_}
 use native.Mathlib.Omega.{arith}
-use lib.ListN.{length}
+use lib.ListN.{length, getD}
 use borrow.Fn.Kinds.{In}
 use borrow.Fn.PlainCycle.{Measures, is, falls, and}
 use Rattle.figures.specs.Entry.{bits}
@@ -64,30 +65,54 @@ look-calls t = (
   demoted-reads.Learnt,
 )
 
+-- CHOOSE
+
 module _ (t : ℕ) where
   choose-t1-at-target-requires : choose-lts.Need-t1-at-target-requires (choose-calls t) (choose-at t) choose.Post
   choose-t1-at-target-requires c κs = omega (arith, c .before .before .pre .1 .0)
 
   choose-look-requires : choose-lts.Need-look-requires (choose-calls t) (choose-at t) choose.Post
   choose-look-requires c κs =
-      let a = c .before .before in
-      let s = a .before .before .before in
-      (omega (arith, s .pre .0), (s .pre .1 .0, (s .pre .1 .1, (omega arith, first-chosen _ (a .t1-at-target .ensures) (c .before .if1 .taken)))))
+      let tested = c .before .before in
+      let start = tested .before .before .before in
+      let is-chosen = first-chosen _ (tested .t1-at-target .ensures) (c .before .if1 .taken) in
+      (omega (arith, start .pre .0), (start .pre .1 .0, (start .pre .1 .1, (omega arith, is-chosen))))
 
   choose-look-requires-2 : choose-lts.Need-look-requires-2 (choose-calls t) (choose-at t) choose.Post
   choose-look-requires-2 c κs =
-      let a = c .before .before in
-      let s = a .before .before .before in
-      (omega (arith, s .pre .0), (s .pre .1 .0, (s .pre .1 .1, (omega arith, second-chosen _ (a .t1-at-target .ensures) (c .before .if1 .left)))))
+      let tested = c .before .before in
+      let start = tested .before .before .before in
+      let is-chosen = second-chosen _ (tested .t1-at-target .ensures) (c .before .if1 .left) in
+      (omega (arith, start .pre .0), (start .pre .1 .0, (start .pre .1 .1, (omega arith, is-chosen))))
 
-  -- The head's two words are there.
-  within : (c : look-lts.After-start-of (look-calls t) (look-at t) look.Post)
-      → c .start-of .result + 1 < length (c .before .before .before .args .dir .now)
+-- LOOK
+
+module _ (t : ℕ) where
+  -- The places that are looked back to.
+  abbrev at-start : look-lts.After-start-of (look-calls t) (look-at t) look.Post → look-lts.Start (look-calls t) (look-at t) look.Post
+  at-start c = c .before .before .before
+
+  abbrev after-start-of : look-lts.After-bit (look-calls t) (look-at t) look.Post → look-lts.After-start-of (look-calls t) (look-at t) look.Post
+  after-start-of c = c .before .before .before .before
+
+  abbrev bit-set : look-lts.After-cleared (look-calls t) (look-at t) look.Post → look-lts.After-bit (look-calls t) (look-at t) look.Post
+  bit-set c = c .before .before .before
+
+  abbrev bit-clear : look-lts.After-demoted (look-calls t) (look-at t) look.Post → look-lts.After-bit (look-calls t) (look-at t) look.Post
+  bit-clear c = c .before .before .before
+
+  abbrev after-move-head : look-lts.After-struct-known2 (look-calls t) (look-at t) look.Post → look-lts.After-move-head (look-calls t) (look-at t) look.Post
+  after-move-head c = c .before .before .before
+
+  -- The chosen clock has a head,
+  head-there : (c : look-lts.Start (look-calls t) (look-at t) look.Post) → 1 ≤ getD (c .args .dir .now) (4 + c .args .i) 0
+  head-there c = let p = c .pre .1 .1 in some-length (p .0) (c .args .i) (p .1 .1) (p .1 .0)
+
+  -- whose two words are there.
+  within : (c : look-lts.After-start-of (look-calls t) (look-at t) look.Post) → c .start-of .result + 1 < length (at-start c .args .dir .now)
   within c =
-      let s = c .before .before .before in
-      let p = s .pre .1 .1 in
-      let some = some-length (p .0) (s .args .i) (p .1 .1) (p .1 .0) in
-      omega (arith, head-inside (omega (arith, p .1 .0)) some (c .start-of .ensures) (s .pre .1 .0))
+      let s = at-start c in
+      omega (arith, head-inside (omega (arith, s .pre .1 .1 .1)) (head-there s) (c .start-of .ensures) (s .pre .1 .0))
 
   look-mul-page : look-lts.Need-mul-page (look-calls t) (look-at t) look.Post
   look-mul-page c = omega (arith, within c)
@@ -105,49 +130,52 @@ module _ (t : ℕ) where
   look-slice-read-f c = omega (arith, within (c .before .before))
 
   look-add-moves : look-lts.Need-add-moves (look-calls t) (look-at t) look.Post
-  look-add-moves c = let r = c .before .before .before .before .before .before .pre .1 .1 .0 .ready in omega (arith, r .left)
+  look-add-moves c = let r = at-start (c .before .before .before) .pre .1 .1 .0 .ready in omega (arith, r .left)
 
   look-move-head-requires : look-lts.Need-move-head-requires (look-calls t) (look-at t) look.Post
   look-move-head-requires c κs =
-      let s = c .before .before .before .before .before .before .before .before .before .before in
-      let p = s .pre .1 .1 in
-      (s .pre .1 .0, omega (arith, p .1 .0, some-length (p .0) (s .args .i) (p .1 .1) (p .1 .0)))
+      let s = at-start (after-start-of (bit-set c)) in
+      (s .pre .1 .0, omega (arith, s .pre .1 .1 .1, head-there s))
 
   look-add-cleared : look-lts.Need-add-cleared (look-calls t) (look-at t) look.Post
-  look-add-cleared c = let r = c .before .before .before .before .before .before .before .before .before .before .before .before .before .before .pre .1 .1 .0 .ready in omega (arith, r .left, r .cleared-most)
+  look-add-cleared c =
+      let s = at-start (after-start-of (bit-set (after-move-head c .before))) in
+      let r = s .pre .1 .1 .0 .ready in
+      omega (arith, r .left, r .cleared-most)
 
   -- A head whose bit is set has moved to T2's tail.
-  looked : (c : look-lts.After-move-head (look-calls t) (look-at t) look.Post)
-      → let s = c .before .before .before .before .before .before .before .before .before .before .before in Again (s .args .dir .now) (s .args .hand) (c .move-head .last .0)
+  looked : (c : look-lts.After-move-head (look-calls t) (look-at t) look.Post) → let a = at-start (after-start-of (bit-set (c .before))) .args in
+      Again (a .dir .now) (a .hand) (c .move-head .last .0)
   looked c =
-      let b = c .before .before .before .before in
-      let o = b .before .before .before .before in
-      let s = o .before .before .before in
-      let p = s .pre .1 .1 in
+      let b = bit-set (c .before) in
+      let o = after-start-of b in
+      let p = at-start o .pre .1 .1 in
       look-again (p .0) (p .1 .0) (p .1 .1) (o .start-of .ensures) (b .bit .result) (b .bit .ensures)
       (c .before .before .before .if1 .taken) (c .before .cleared .ensures) (c .move-head .ensures)
 
   look-choose-requires : look-lts.Need-choose-requires (look-calls t) (look-at t) look.Post
   look-choose-requires c κs =
-      let m = c .before .before .before .before in
-      let x = looked m in
-      (omega (arith, m .before .before .before .before .before .before .before .before .before .before .before .pre .0, x .fewer), (room (x .turning), x .turning))
+      let m = after-move-head (c .before) in
+      let s = at-start (after-start-of (bit-set (m .before))) in
+      let again = looked m in
+      (omega (arith, s .pre .0, again .fewer), (room (again .turning), again .turning))
 
   look-move-head-requires-2 : look-lts.Need-move-head-requires-2 (look-calls t) (look-at t) look.Post
   look-move-head-requires-2 c κs =
-      let s = c .before .before .before .before .before .before .before .before .before .before in
-      let p = s .pre .1 .1 in
-      (s .pre .1 .0, omega (arith, p .1 .0, some-length (p .0) (s .args .i) (p .1 .1) (p .1 .0)))
+      let s = at-start (after-start-of (bit-clear c)) in
+      (s .pre .1 .0, omega (arith, s .pre .1 .1 .1, head-there s))
 
   look-returns : look-lts.Need-returns (look-calls t) (look-at t) look.Post
-  look-returns c = looked (c .before .before .before .before .before .before .before) .rest (c .before .before .choose .ensures)
+  look-returns c =
+      let called = c .before .before in
+      looked (after-move-head (called .before .before)) .rest (called .choose .ensures)
 
   look-returns-2 : look-lts.Need-returns-2 (look-calls t) (look-at t) look.Post
   look-returns-2 c =
       let m = c .before .before in
-      let b = m .before .before .before .before in
-      let o = b .before .before .before .before in
-      let p = o .before .before .before .pre .1 .1 in
+      let b = bit-clear (m .before) in
+      let o = after-start-of b in
+      let p = at-start o .pre .1 .1 in
       look-stops (p .0) (p .1 .0) (p .1 .1) (o .start-of .ensures) (b .bit .result) (b .bit .ensures)
       (m .before .before .before .if1 .left) (m .before .demoted .ensures) (m .move-head2 .ensures)
 
