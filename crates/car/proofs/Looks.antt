@@ -7,7 +7,7 @@ use native.Mathlib.Omega.{arith}
 use lib.ListN.{getD}
 use Rattle.figures.specs.Entry.{Entry, cleared, demoted, bits}
 use Rattle.figures.specs.Directory.{Directory, Name, listOf, inCache}
-use Rattle.figures.specs.Words.{flags, decode}
+use Rattle.figures.specs.Words.{decode}
 use Rattle.laws.proofs.Encoding.{decoded}
 use Rattle.engine.specs.declared.Hand.{Hand}
 use Rattle.engine.specs.declared.Evicted.{Evicted}

@@ -1,14 +1,10 @@
 -- Too little memory is refused; where it is enough, the sheet decides.
 use borrow.Author.Needs.{needs}
-use Rattle.scoring.specs.Scored.{scored}
 use Rattle.scoring.proofs.Lending.{lent, short-answers, sheet-answers}
 use Rattle.scoring.proofs.score.Statement.{statement}
 use Rattle.scoring.proofs.score.Tie as tie
 
 -- The places that are looked back to.
-abbrev at-start : tie.After-lends-enough → tie.Start
-at-start c = c .before .before .before .before .before .before .before .before .before .before
-
 abbrev in-else1 : tie.After-score-sheet-arg4 → tie.Else1
 in-else1 c = c .before .before .before .before
 
@@ -18,19 +14,7 @@ after-score-sheet c = c .before .before .before .before .before .before .before 
 returns : tie.Need-returns
 returns c =
     let told = c .before .before in
-    let a = at-start told .args in
-    short-answers
-    256
-    (a .pages .now)
-    (a .dir .now)
-    (a .answers .now)
-    (a .out .now)
-    _
-    (told .lends-enough .ensures)
-    (scored (a .sheet .now))
-    (a .sheet .now)
-    (c .before .if1 .taken)
-    (c .refused .ensures)
+    short-answers 256 _ _ _ _ _ (told .lends-enough .ensures) _ _ (c .before .if1 .taken) (c .refused .ensures)
 
 score-sheet-requires : tie.Need-score-sheet-requires
 score-sheet-requires c κs =
@@ -41,18 +25,7 @@ returns-2 : tie.Need-returns-2
 returns-2 c =
     let answered = after-score-sheet c in
     let enough = in-else1 (answered .before) in
-    let a = at-start (enough .before) .args in
-    sheet-answers
-    256
-    (a .pages .now)
-    (a .dir .now)
-    (a .answers .now)
-    (a .out .now)
-    _
-    (enough .before .lends-enough .ensures)
-    (scored (a .sheet .now))
-    (a .sheet .now)
-    (enough .if1 .left)
+    sheet-answers 256 _ _ _ _ _ (enough .before .lends-enough .ensures) _ _ (enough .if1 .left)
     (answered .score-sheet .ensures)
 
 pub score-spec : {M : Type 1} → statement M
