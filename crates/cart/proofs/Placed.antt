@@ -63,6 +63,6 @@ module _ {x : ℕ} {w w₁ : List ℕ} {nS : ShortCount} {nL : LongCount} where
       let h₁ = header d₁ w₁ holds in
       let n = length-tail (d .t1) (newLong x) in
       let m = length-without x (d .b2) found in (
-        roomy d₁ holds (omega (arith, free .one-free, free .history-most)) (omega (arith, free .c-most)),
-        omega (arith, free .c-most, free .one-free, fit),
+        roomy d₁ holds (omega (arith, free .one-free, free .history-most)) (omega (arith, free .bounds)),
+        omega (arith, free .bounds, free .one-free, fit),
       )

@@ -71,7 +71,7 @@ module _ {w : List ℕ} {k : Kept} (p : Passing Holds w k) where
   passing-header = header (p .dir) w (p .shown)
 
   pub passing-room : Room w
-  passing-room = roomy (p .dir) (p .shown) (omega (arith, p .accounts)) (p .accounts .c-most)
+  passing-room = roomy (p .dir) (p .shown) (omega (arith, p .accounts)) (p .accounts .bounds .of-c .c-most)
 
   -- A list with a head has a length.
   pub t1-some : {e : Entry} {es : List Entry} → p .dir .t1 ≡ e ∷ es → 1 ≤ nT1 w

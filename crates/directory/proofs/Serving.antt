@@ -43,7 +43,7 @@ ready w is-sound =
     record {
       is-sound = is-sound;
       length-is = omega arith;
-      c-most = omega (arith, s .c-most);
+      bounds = omega (arith, s .bounds);
       cache-fits = omega (arith, s .cache-fits);
       history-fits = omega (arith, s .history-fits);
     }

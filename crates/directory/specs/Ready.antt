@@ -16,7 +16,7 @@ use Rattle.engine.specs.declared.Served.{Served}
 use Rattle.tally.specs.Note.{defined}
 use Rattle.entries.specs.Holds.{Holds}
 use Rattle.figures.specs.Words.{encode, decode, size, nT1, nT2, nB1, nB2}
-use Rattle.figures.specs.Sound.{sound}
+use Rattle.figures.specs.Sound.{SizeBounds, sound}
 
 -- An answer of this kind that evicts nothing.
 abbrev pub stillOf : ℕ → Served
@@ -30,7 +30,7 @@ evicting x d = let π = policyOf (d .policy) in missed π x (π .evict d)
 pub record Ready (w : List ℕ) : Type 0 where
   pub is-sound : sound w ≡ true
   pub length-is : ∣ w ∣ ≡ 8 + 4 * size w
-  pub c-most : size w ≤ 1024
+  pub bounds : SizeBounds (size w)
   pub cache-fits : nT1 w + nT2 w ≤ size w
   pub history-fits : nB1 w + nB2 w ≤ size w
 

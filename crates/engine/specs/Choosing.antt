@@ -1,12 +1,13 @@
 -- CAR's choice and its looks over lent memory w, and k, what the hand has counted. How memory shows a directory is a
 -- parameter. Any hand that memory and counts show may be meant: a promise is one about each of them.
 use mathlib.Core.Path.{_≡_}
-use Prim.Native.Nat.{_+_, _*_, _≤_}
+use Prim.Native.Nat.{_+_, _≤_}
 use Rattle.terms.specs.Choice.{if_then_else_}
 use Rattle.figures.specs.Entry.{bits}
-use Rattle.figures.specs.Directory.{Directory, Name, T1, T2, B1, B2, unit, cached, remembered, inCache, t1AtTarget}
+use Rattle.figures.specs.Directory.{Directory, Name, T1, T2, B1, B2, cached, remembered, inCache, t1AtTarget}
 use Rattle.figures.specs.Hand.{Hand}
 use Rattle.figures.specs.Car.{choose}
+use Rattle.figures.specs.Sound.{Bounds}
 use Rattle.engine.specs.declared.Hand.{Hand as Counted}
 use Rattle.engine.specs.declared.Evicted.{Evicted}
 use Rattle.engine.specs.Shown.{Counts, EndsWhere, EvictedAs}
@@ -23,9 +24,7 @@ historyOf B2 = B2
 
 -- Of a full directory between two looks: each set bit may still cost a move.
 pub record CarReady (d : Directory) (k : Counted) : Type 0 where
-  pub c-least : 1 ≤ d .c
-  pub c-most : d .c ≤ 1024
-  pub p-fits : d .p ≤ unit * d .c
+  pub bounds : Bounds (d .c) (d .p)
   pub full : cached d ≡ d .c
   pub history-fits : remembered d ≤ d .c
   pub left : k .moves + inCache bits d ≤ 1024

@@ -6,10 +6,11 @@ use Prim.Native.Nat.{ℕ, _+_, _*_, _≤_}
 use lib.Dec.{ltb, eqb}
 use Rattle.terms.specs.Choice.{if_then_else_}
 use Rattle.figures.specs.Entry.{Entry, isLong, bits, short, long, total}
-use Rattle.figures.specs.Directory.{Directory, Name, B1, B2, unit, cached, remembered, inCache}
+use Rattle.figures.specs.Directory.{Directory, Name, B1, B2, cached, remembered, inCache}
 use Rattle.figures.specs.Hand.{Hand, Look, again}
 use Rattle.figures.specs.Cart.{cost, demotion}
 use Rattle.figures.specs.Policy.{cartPolicy}
+use Rattle.figures.specs.Sound.{Bounds}
 use Rattle.engine.specs.declared.counts.ShortCount.{ShortCount}
 use Rattle.engine.specs.declared.counts.LongCount.{LongCount}
 use Rattle.engine.specs.declared.counts.Kept.{Kept}
@@ -26,9 +27,7 @@ goesOn e = e .bit || isLong (e .filter)
 
 -- Of a full directory: the counts are those of T1 and T2, and what the passes may still cost is bounded.
 pub record Accounts (d : Directory) (k : Kept) : Type 0 where
-  pub c-least : 1 ≤ d .c
-  pub c-most : d .c ≤ 1024
-  pub p-fits : d .p ≤ unit * d .c
+  pub bounds : Bounds (d .c) (d .p)
   pub q-fits : d .q ≤ 2 * d .c
   pub full : cached d ≡ d .c
   pub history-fits : remembered d ≤ d .c

@@ -50,7 +50,7 @@ filled {w = w} known =
       shared = s;
       own = own-by f (sym (h .policy) ∙ known .is-named);
       full = omega (arith, known .is-full);
-      room = roomy d is (omega (arith, s .cache-fits, s .history-fits)) (s .c-most);
+      room = roomy d is (omega (arith, s .cache-fits, s .history-fits)) (s .bounds .of-c .c-most);
     }
 
 -- What the evict part leaves of them is what a page that comes back, or a new one, needs.
@@ -65,12 +65,10 @@ freed {W = W} f d′ is o =
     let more = o .one-more in
     record {
       is = encoded d′ is;
-      c-least = omega (arith, s .c-least);
-      c-most = omega (arith, s .c-most);
-      p-fits = omega (arith, s .p-fits);
+      bounds = omega (arith, s .bounds);
       one-free = omega arith;
       history-most = omega (arith, s .history-fits);
-      room = roomy d′ is (omega (arith, s .history-fits)) (omega (arith, s .c-most));
+      room = roomy d′ is (omega (arith, s .history-fits)) (omega (arith, s .bounds));
     }
 
 -- After trim there is room for one more entry.

@@ -3,12 +3,12 @@
 use mathlib.Core.Path.{_≡_}
 use mathlib.Core.Bool.{true, false}
 use mathlib.Core.List.{List}
-use Prim.Native.Nat.{ℕ, _+_, _*_, _≤_}
+use Prim.Native.Nat.{ℕ, _+_, _≤_}
 use lib.ListN.{getD}
 use Rattle.figures.specs.Entry.{Entry, has, without}
-use Rattle.figures.specs.Directory.{Directory, unit, Name, B1, B2, withList, withP, toTail}
+use Rattle.figures.specs.Directory.{Directory, Name, B1, B2, withList, withP, toTail}
 use Rattle.figures.specs.Words.{flags, decode, size, nT1, nT2, nB1, nB2}
-use Rattle.figures.specs.Sound.{sound}
+use Rattle.figures.specs.Sound.{Bounds, sound}
 use Rattle.entries.specs.declared.returning.Return.{Return}
 use Rattle.entries.specs.Holds.{Holds}
 use Rattle.entries.specs.Stretches.{Room, nameOf}
@@ -23,9 +23,7 @@ pub record Full (policy : ℕ) (w : List ℕ) : Type 0 where
 -- After the evict part: room for one page, and the histories may hold one too many.
 pub record Freed (w : List ℕ) : Type 0 where
   pub is : Holds (decode w) w
-  pub c-least : 1 ≤ size w
-  pub c-most : size w ≤ 1024
-  pub p-fits : getD w 2 0 ≤ unit * size w
+  pub bounds : Bounds (size w) (getD w 2 0)
   pub one-free : nT1 w + nT2 w + 1 ≡ size w
   pub history-most : nB1 w + nB2 w ≤ size w + 1
   pub room : Room w

@@ -2,16 +2,25 @@
 -- Lengths are those that words 4 to 7 state, so that no damaged length escapes; entries are read through decode.
 use mathlib.Core.Bool.{Bool, true}
 use mathlib.Core.List.{List, [], _∷_, _++_}
-use Prim.Native.Nat.{ℕ, _+_, _*_}
+use Prim.Native.Nat.{ℕ, _+_, _*_, _≤_}
 use lib.ListN.{getD, take, drop}
 use lib.Dec.{leb, ltb, eqb}
 use Rattle.terms.specs.Choice.{if_then_else_, ∣_∣, every, allAtMost}
-use Rattle.terms.specs.Limits.{knownSize}
+use Rattle.terms.specs.Limits.{mostSize, knownSize}
 use Rattle.terms.specs.Policies.{knownPolicy}
 use Rattle.figures.specs.Entry.{bits, noneOf, differ}
 use Rattle.figures.specs.Directory.{unit, listed}
 use Rattle.figures.specs.Words.{mostFlags, decode, size, nT1, nT2, nB1, nB2, used, unused}
 use Rattle.figures.specs.Policy.{policyOf}
+
+-- What c and p are in every sound directory, as facts: "c, 1 to 1,024"; "p ≤ c".
+pub record SizeBounds (c : ℕ) : Type 0 where
+  pub c-least : 1 ≤ c
+  pub c-most : c ≤ mostSize
+
+pub record Bounds (c p : ℕ) : Type 0 where
+  pub of-c : SizeBounds c
+  pub p-fits : p ≤ unit * c
 
 -- The second word of each entry.
 abbrev pub flagWords : List ℕ → List ℕ

@@ -7,9 +7,10 @@ use native.Mathlib.Omega.{arith}
 use Rattle.terms.specs.Choice.{∣_∣}
 use Rattle.terms.specs.Policies.{knownPolicy}
 use Rattle.figures.specs.Entry.{Entry, bits, short, long, total}
-use Rattle.figures.specs.Directory.{Directory, unit, cached, remembered, inCache}
+use Rattle.figures.specs.Directory.{Directory, cached, remembered, inCache}
 use Rattle.figures.specs.Words.{encode}
 use Rattle.figures.specs.Policy.{policyOf}
+use Rattle.figures.specs.Sound.{Bounds}
 use Rattle.laws.proofs.Lists.{is, one, length-counts}
 
 abbrev pub inHistory : (Entry → ℕ) → Directory → ℕ
@@ -33,9 +34,7 @@ pub record CartFacts (d : Directory) : Type 0 where
 
 -- What all policies share.
 pub record Shared (d : Directory) : Type 0 where
-  pub c-least : 1 ≤ d .c
-  pub c-most : d .c ≤ 1024
-  pub p-fits : d .p ≤ unit * d .c
+  pub bounds : Bounds (d .c) (d .p)
   pub cache-fits : cached d ≤ d .c
   pub history-fits : remembered d ≤ d .c
   pub room-no-history : cached d < d .c → remembered d ≡ 0

@@ -121,9 +121,7 @@ fresh-is-sound policy c known size =
     (record {
       known = known;
       shared = record {
-        c-least = range .0;
-        c-most = range .1;
-        p-fits = omega arith;
+        bounds = omega arith;
         cache-fits = omega arith;
         history-fits = omega arith;
         room-no-history = λ room. refl;

@@ -12,6 +12,7 @@ use Rattle.terms.proofs.Choice.{either}
 use Rattle.figures.specs.Entry.{Entry, newShort, newLong, bits, total, has, mark, without}
 use Rattle.figures.specs.Directory.{Directory, unit, T1, T2, withLists, withList, withQ}
 use Rattle.figures.specs.Directory.{hit, placeNew, cached, remembered, inCache}
+use Rattle.figures.specs.Sound.{Bounds}
 use Rattle.figures.specs.Hand.{Hand}
 use Rattle.figures.specs.Car as Car
 use Rattle.figures.specs.Cart as Cart
@@ -60,9 +61,7 @@ module _ (d : Directory) (shared : Shared d) where
       → ((y : ℕ) → total (is y) t1 ≡ total (is y) (d .t1)) → ((y : ℕ) → total (is y) t2 ≡ total (is y) (d .t2))
       → Shared (withLists t1 t2 (d .b1) (d .b2) d)
   same-pages-keep t1 t2 m n pages1 pages2 = record {
-    c-least = shared .c-least;
-    c-most = shared .c-most;
-    p-fits = shared .p-fits;
+    bounds = shared .bounds;
     cache-fits = omega (arith, shared .cache-fits);
     history-fits = shared .history-fits;
     room-no-history = λ room. shared .room-no-history (omega arith);
@@ -87,9 +86,7 @@ hit-cached x d =
 
 -- A directory with room for page x, which it does not list.
 pub record Roomy (x : ℕ) (d : Directory) : Type 0 where
-  pub c-least : 1 ≤ d .c
-  pub c-most : d .c ≤ 1024
-  pub p-fits : d .p ≤ unit * d .c
+  pub bounds : Bounds (d .c) (d .p)
   pub room : cached d < d .c
   pub history-fits : remembered d ≤ d .c
   pub more-room-no-history : cached d + 1 < d .c → remembered d ≡ 0
@@ -115,9 +112,7 @@ module _ (x : ℕ) (d : Directory) where
   new-keeps r =
       let n = length-tail (d .t1) (newShort x) in
       record {
-        c-least = r .c-least;
-        c-most = r .c-most;
-        p-fits = r .p-fits;
+        bounds = r .bounds;
         cache-fits = omega (arith, r .room);
         history-fits = r .history-fits;
         room-no-history = λ more. r .more-room-no-history (omega arith);
@@ -127,9 +122,7 @@ module _ (x : ℕ) (d : Directory) where
 
 -- A directory that the evict part has left: room for one page, and the histories may hold one too many.
 pub record Open (x : ℕ) (d : Directory) : Type 0 where
-  pub c-least : 1 ≤ d .c
-  pub c-most : d .c ≤ 1024
-  pub p-fits : d .p ≤ unit * d .c
+  pub bounds : Bounds (d .c) (d .p)
   pub room : cached d + 1 ≡ d .c
   pub history-most : remembered d ≤ d .c + 1
   pub pages-differ : (y : ℕ) → inCache (is y) d + inHistory (is y) d ≤ 1
@@ -141,9 +134,7 @@ opened-open x d d′ s full missed o =
     let c = o .same-c in
     let p = o .same-p in
     record {
-      c-least = omega (arith, s .c-least);
-      c-most = omega (arith, s .c-most);
-      p-fits = omega (arith, s .p-fits);
+      bounds = omega (arith, s .bounds);
       room = omega (arith, o .one-less);
       history-most = omega (arith, o .one-more, s .history-fits);
       pages-differ = λ y. omega (arith, o .none-listed y, s .pages-differ y);
@@ -161,9 +152,7 @@ trimmed-roomy x d d′ o not-b1 not-b2 t =
     let b1 = lacks-counts x (d .b1) not-b1 in
     let b2 = lacks-counts x (d .b2) not-b2 in
     record {
-      c-least = omega (arith, o .c-least);
-      c-most = omega (arith, o .c-most);
-      p-fits = omega (arith, o .p-fits);
+      bounds = omega (arith, o .bounds);
       room = omega (arith, o .room);
       history-fits = omega (arith, t .history-fits);
       more-room-no-history = λ more. absurd (omega (arith, o .room));
@@ -179,9 +168,7 @@ pub room-roomy : (x : ℕ) (d : Directory) → Shared d → cached d < d .c → 
 room-roomy x d s room missed =
     let none = s .room-no-history room in
     record {
-      c-least = s .c-least;
-      c-most = s .c-most;
-      p-fits = s .p-fits;
+      bounds = s .bounds;
       room = room;
       history-fits = s .history-fits;
       more-room-no-history = λ more. none;
@@ -203,9 +190,7 @@ pub record Leaves (x : ℕ) (d d′ : Directory) : Type 0 where
 
 pub back-keeps : (x : ℕ) (d d′ : Directory) → Open x d → d′ .c ≡ d .c → d′ .p ≤ unit * d .c → Enters x d d′ → Leaves x d d′ → Shared d′
 back-keeps x d d′ o c p e l = record {
-  c-least = omega (arith, o .c-least);
-  c-most = omega (arith, o .c-most);
-  p-fits = omega arith;
+  bounds = omega (arith, o .bounds);
   cache-fits = omega (arith, e .one-more, o .room);
   history-fits = omega (arith, l .one-less, o .history-most);
   room-no-history = λ more. absurd (omega (arith, e .one-more, o .room));
@@ -289,7 +274,7 @@ module _ (x : ℕ) (h : Hand) (o : Open x (h .dir)) where
   pub car-B2-back : has x (h .dir .b2) ≡ true → BackInCache x (h .dir) (Car.placeB2 x h)
   unfolding Car.placeB2
   car-B2-back found =
-      let p = o .p-fits in
+      let p = o .bounds .p-fits in
       came-back x (h .dir) _ o refl refl (omega arith) (enters-T2 x (h .dir) _ (newShort x) refl refl refl) (leaves-B2 x (h .dir) _ found refl refl)
 
   pub cart-B1-back : has x (h .dir .b1) ≡ true → BackInCache x (h .dir) (Cart.placeB1 x h)
@@ -300,6 +285,6 @@ module _ (x : ℕ) (h : Hand) (o : Open x (h .dir)) where
   pub cart-B2-back : has x (h .dir .b2) ≡ true → BackInCache x (h .dir) (Cart.placeB2 x h)
   unfolding Cart.placeB2
   cart-B2-back found =
-      let p = o .p-fits in
+      let p = o .bounds .p-fits in
       raised (BackInCache x (h .dir)) (h .nS) (Cart.backFromB2 x h) (λ q.
       came-back x (h .dir) _ o refl refl (omega arith) (enters-T1 x (h .dir) _ (newLong x) refl refl refl) (leaves-B2 x (h .dir) _ found refl refl))

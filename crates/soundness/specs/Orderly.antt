@@ -12,13 +12,13 @@ use Rattle.figures.specs.Entry.{bits, noneOf, differ}
 use Rattle.figures.specs.Directory.{unit, listed}
 use Rattle.figures.specs.Words.{encode, decode, size, nT1, nT2, nB1, nB2}
 use Rattle.figures.specs.Policy.{policyOf}
+use Rattle.figures.specs.Sound.{SizeBounds}
 
 -- The words' number, policy and size are in order.
 pub record Orderly (w : List ℕ) : Type 0 where
   pub length-is : ∣ w ∣ ≡ 8 + 4 * size w
   pub policy-known : knownPolicy (getD w 0 0) ≡ true
-  pub c-least : 1 ≤ size w
-  pub c-most : size w ≤ 1024
+  pub bounds : SizeBounds (size w)
 
 -- "p ≤ c; |T1|+|T2| ≤ c; |B1|+|B2| ≤ c; both histories are empty if |T1|+|T2| < c"
 abbrev pub sizesFit : List ℕ → Bool

@@ -62,7 +62,7 @@ place-new-requires c κs =
     let h = header d w (f .is) in
     let same = unchanged (returned b) (t .if2 .taken) in
     room-for-new d (Cart.trim d) (after-trim c .trim .ensures d (f .is ∙ sym same))
-    (trim-fits d (omega (arith, f .one-free)) (omega (arith, f .history-most))) (omega (arith, f .c-most))
+    (trim-fits d (omega (arith, f .one-free)) (omega (arith, f .history-most))) (omega (arith, f .bounds))
 
 returns-2 : tie.Need-returns-2
 returns-2 c h is short long =

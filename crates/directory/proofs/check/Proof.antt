@@ -74,7 +74,7 @@ exact c = omega arith
 is-sound-requires : tie.Need-is-sound-requires
 is-sound-requires c κs =
     let said = simp reads at (sized (at-size c)) in
-    record { length-is = exact c; policy-known = policy (at-policy c); c-least = omega arith; c-most = omega arith }
+    record { length-is = exact c; policy-known = policy (at-policy c); bounds = omega arith }
 
 returns-5 : tie.Need-returns-5
 returns-5 c =
