@@ -41,7 +41,8 @@ other-at-most : (b : Bool) → (if b then 0 else 1) ≤ 1
 other-at-most true = omega arith
 other-at-most false = omega arith
 
-pub noted-within : (n : ℕ) (t : Run.Tally) (s : Request.Served) → s .moves ≤ 2049 → Within n t → Within (n + 1) (Run.noted s t)
+pub noted-within : (n : ℕ) (t : Run.Tally) (s : Request.Served) → s .moves ≤ 2049 → Within n t
+    → Within (n + 1) (Run.noted s t)
 noted-within n t s l w = record {
   requests = omega arith;
   hits = omega (arith, one-at-most (eqb (s .kind) 0));
