@@ -5,7 +5,7 @@ use mathlib.Core.List.{List}
 use Prim.Native.Nat.{ℕ, _+_, _≤_, _<_}
 use native.Mathlib.Omega.{arith}
 use lib.ListN.{getD}
-use Rattle.figures.specs.Entry.{Entry, cleared, demoted, bits}
+use Rattle.figures.specs.Entry.{cleared, demoted, bits}
 use Rattle.figures.specs.Directory.{Directory, Name, listOf, inCache}
 use Rattle.figures.specs.Words.{decode}
 use Rattle.laws.proofs.Encoding.{decoded}
@@ -37,17 +37,12 @@ module _ {w : List ℕ} {k : Hand} {i at : ℕ} (t : Turning Holds w k) (known :
   bit-read : (d : Directory) → Holds d w → bit ≡ frontOf (listOf (nameOf i) d) .bit
   bit-read d is = says (frontOf (listOf (nameOf i) d)) (flags-read (omega arith) some start d is)
 
-  -- The head moved to list j's tail, its flags changed.
-  makes : (j : ℕ) (change : Entry → Entry) {f : ℕ} {L : List ℕ} → ((e : Entry) → change e .page ≡ e .page)
-      → Becomes change (getD w (at + 1) 0) f → HeadMoved i j f w L → Makes Holds (headTo (nameOf i) (nameOf j) change) w L
-  makes j change same becomes =
-      head-moved (omega arith) some start j _ change same
-      (λ d is. becomes (frontOf (listOf (nameOf i) d)) (flags-read (omega arith) some start d is))
-
-  pub look-again : {f : ℕ} {L : List ℕ} → bit ≡ true → Becomes cleared (getD w (at + 1) 0) f → HeadMoved i 1 f w L → Again w k L
+  pub look-again : {f : ℕ} {L : List ℕ} → bit ≡ true → Becomes cleared (getD w (at + 1) 0) f → HeadMoved i 1 f w L
+      → Again w k L
   look-again is becomes moved =
-      let set : (d : Directory) → Holds d w → frontOf (listOf (nameOf i) d) .bit ≡ true = λ d shown. sym (bit-read d shown) ∙ is in
-      let turned = makes 1 cleared (λ e. refl) becomes moved in
+      let set : (d : Directory) → Holds d w → frontOf (listOf (nameOf i) d) .bit ≡ true =
+      λ d shown. sym (bit-read d shown) ∙ is in
+      let turned = head-moved (omega arith) some start 1 cleared (λ e. refl) becomes moved in
       let on = turns-on t (nameOf i) choice (has-head t i choice) set turned in
       let less = fewer-bits t (nameOf i) choice (has-head t i choice) set turned in
       record {
@@ -59,7 +54,7 @@ module _ {w : List ℕ} {k : Hand} {i at : ℕ} (t : Turning Holds w k) (known :
   pub look-stops : {f : ℕ} {L : List ℕ} → bit ≡ false → Becomes demoted (getD w (at + 1) 0) f → HeadMoved i (i + 2) f w L
       → EndsFrom Holds w k (record { page = getD w at 0; list = i + 1; hand = demotedOnce k }) L
   look-stops {L = L} is becomes moved =
-      let demotes = makes (i + 2) demoted (λ e. refl) becomes moved in
+      let demotes = head-moved (omega arith) some start (i + 2) demoted (λ e. refl) becomes moved in
       stops-here t (nameOf i) choice (has-head t i choice) (list-word i known) (λ d shown. sym (bit-read d shown) ∙ is)
       (page-read (omega arith) some start)
       (subst (λ (j : Name). Makes Holds (headTo (nameOf i) j demoted) w L) (history-name i known) demotes)

@@ -1,6 +1,6 @@
 -- A page placed by CART, from what a page that comes back leaves: q raised after one from B2, trim before a new one.
 -- By the answer's kind.
-use mathlib.Core.Path.{_≡_, refl}
+use mathlib.Core.Path.{_≡_}
 use mathlib.Core.List.{List}
 use Prim.Native.Nat.{ℕ}
 use native.Mathlib.Omega.{arith}
@@ -17,52 +17,49 @@ use Rattle.engine.specs.Shown.{Makes, PlacedAs}
 use Rattle.engine.proofs.Placed.{placed-B1, placed-B2, placed-new}
 use Rattle.entries.specs.Holds.{Holds}
 use Rattle.entries.specs.Stretches.{Room}
-use Rattle.entries.specs.Returning.{Freed, Returned, from-b1, from-b2, is-new, backFromB2}
+use Rattle.entries.specs.Returning.{Freed, Returned, returnedFromB2}
+use Rattle.entries.proofs.ComingBack.{was-new, was-in-b1, was-in-b2}
 use Rattle.entries.proofs.Laid.{header}
 use Rattle.entries.proofs.Rooms.{roomy}
 use Rattle.cart.specs.Passing.{Raisable, CountsFit}
 
 -- By where the page was.
-module _ {x : ℕ} {h : Hand} {w w₁ : List ℕ} where
-  pub from-B1 : {kind : ℕ} → Returned (h .dir) x (newLong x) T1 (h .nS) (h .nL) w w₁ kind → ¬ (kind ≡ 4) → ¬ (kind ≡ 2)
-      → PlacedAs Holds cartPolicy x h kind w₁
+module _ {x : ℕ} {h : Hand} {w w₁ : List ℕ} {kind : ℕ}
+    (r : Returned (h .dir) x (newLong x) T1 (h .nS) (h .nL) w w₁ kind) where
+  pub from-B1 : ¬ (kind ≡ 4) → ¬ (kind ≡ 2) → PlacedAs Holds cartPolicy x h kind w₁
   unfolding placeB1
-  from-B1 (from-b1 found holds) not-four not-two = placed-B1 Holds cartPolicy x h found holds
-  from-B1 (from-b2 lacks found holds) not-four not-two = absurd (not-four refl)
-  from-B1 (is-new not-b1 not-b2 same) not-four not-two = absurd (not-two refl)
+  from-B1 not-four not-two =
+      let was = was-in-b1 r not-two not-four in
+      rw (was .0) (placed-B1 Holds cartPolicy x h (was .1) (was .2))
 
-  pub from-B2 : {kind : ℕ} {w₂ : List ℕ} → Returned (h .dir) x (newLong x) T1 (h .nS) (h .nL) w w₁ kind → kind ≡ 4
-      → Makes Holds (raise (h .nS)) w₁ w₂ → PlacedAs Holds cartPolicy x h kind w₂
+  pub from-B2 : {w₂ : List ℕ} → kind ≡ 4 → Makes Holds (raise (h .nS)) w₁ w₂ → PlacedAs Holds cartPolicy x h kind w₂
   unfolding placeB2
-  from-B2 (from-b1 found holds) is raised = absurd (omega arith)
-  from-B2 (from-b2 lacks found holds) is raised =
-      placed-B2 Holds cartPolicy x h lacks found (raised (backFromB2 (h .dir) x (newLong x) T1 (h .nL)) holds)
-  from-B2 (is-new not-b1 not-b2 same) is raised = absurd (omega arith)
+  from-B2 is raised =
+      let was = was-in-b2 r is in
+      let back = returnedFromB2 (h .dir) x (newLong x) T1 (h .nL) in
+      rw is (placed-B2 Holds cartPolicy x h (was .0) (was .1) (raised back (was .2)))
 
-  pub new-page : {kind : ℕ} {w₂ : List ℕ} → Returned (h .dir) x (newLong x) T1 (h .nS) (h .nL) w w₁ kind → kind ≡ 2
-      → (w₁ ≡ w → Holds (placeNew x (trim (h .dir))) w₂) → PlacedAs Holds cartPolicy x h kind w₂
-  new-page (from-b1 found holds) is placed = absurd (omega arith)
-  new-page (from-b2 lacks found holds) is placed = absurd (omega arith)
-  new-page (is-new not-b1 not-b2 same) is placed = placed-new Holds cartPolicy x h not-b1 not-b2 (placed same)
+  pub new-page : {w₂ : List ℕ} → kind ≡ 2 → (w₁ ≡ w → Holds (placeNew x (trim (h .dir))) w₂)
+      → PlacedAs Holds cartPolicy x h kind w₂
+  new-page is placed =
+      let was = was-new r is in
+      rw is (placed-new Holds cartPolicy x h (was .0) (was .1) (placed (was .2)))
 
 -- The words then: unchanged for a new page, and such that q may be raised for one from B2.
-module _ {x : ℕ} {w w₁ : List ℕ} {nS : ShortCount} {nL : LongCount} where
-  pub unchanged : {kind : ℕ} → Returned (decode w) x (newLong x) T1 (nS .0) (nL .0) w w₁ kind → kind ≡ 2 → w₁ ≡ w
-  unchanged (from-b1 found holds) is = absurd (omega arith)
-  unchanged (from-b2 lacks found holds) is = absurd (omega arith)
-  unchanged (is-new not-b1 not-b2 same) is = same
+module _ {x : ℕ} {w w₁ : List ℕ} {nS : ShortCount} {nL : LongCount} {kind : ℕ}
+    (r : Returned (decode w) x (newLong x) T1 (nS .0) (nL .0) w w₁ kind) where
+  pub unchanged : kind ≡ 2 → w₁ ≡ w
+  unchanged is = was-new r is .2
 
-  pub raise-ready : {kind : ℕ} → Returned (decode w) x (newLong x) T1 (nS .0) (nL .0) w w₁ kind → kind ≡ 4
-      → Freed w → CountsFit w nS nL → Room w₁ × Raisable w₁ (nS .0)
-  raise-ready (from-b1 found holds) is free fit = absurd (omega arith)
-  raise-ready (is-new not-b1 not-b2 same) is free fit = absurd (omega arith)
-  raise-ready (from-b2 lacks found holds) is free fit =
+  pub raise-ready : kind ≡ 4 → Freed w → CountsFit w nS nL → Room w₁ × Raisable w₁ (nS .0)
+  raise-ready is free fit =
+      let was = was-in-b2 r is in
       let d = decode w in
-      let d₁ = backFromB2 d x (newLong x) T1 (nL .0) in
+      let d₁ = returnedFromB2 d x (newLong x) T1 (nL .0) in
       let h = header d w (free .is) in
-      let h₁ = header d₁ w₁ holds in
+      let h₁ = header d₁ w₁ (was .2) in
       let n = length-tail (d .t1) (newLong x) in
-      let m = length-without x (d .b2) found in (
-        roomy d₁ holds (omega (arith, free .one-free, free .history-most)) (omega (arith, free .bounds)),
+      let m = length-without x (d .b2) (was .1) in (
+        roomy d₁ (was .2) (omega (arith, free .one-free, free .history-most)) (omega (arith, free .bounds)),
         omega (arith, free .bounds, free .one-free, fit),
       )

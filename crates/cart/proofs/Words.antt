@@ -20,7 +20,7 @@ use Rattle.entries.specs.Flags.{Becomes}
 use Rattle.entries.specs.Leaves.{HeadMoved}
 use Rattle.entries.specs.Stretches.{Room, nameOf, startOf}
 use Rattle.entries.proofs.Laid.{Header, header, with-q, length-of-list}
-use Rattle.entries.proofs.Heads.{page-read, flags-read, head-moved}
+use Rattle.entries.proofs.Heads.{page-read, head-moved}
 use Rattle.entries.proofs.Rooms.{roomy}
 use Rattle.cart.specs.Passing.{HeadDemoted}
 
@@ -42,7 +42,8 @@ module _ (d : Directory) {w : List ℕ} (is : Holds d w) where
   pub lowered : (less q : ℕ) → less ≡ getD w 3 0 - 1 → q ≡ max less (size w - nT1 w) → Holds (lower d) (set w 3 q)
   lowered less q is-less greatest = let r = header d w is in with-q d is (omega arith)
 
-  pub becomes-long-read : (least : ℕ) → least ≡ min (getD w 2 0 + unit) (unit * nB1 w) → leb least (unit * nT1 w) ≡ becomesLong d
+  pub becomes-long-read : (least : ℕ) → least ≡ min (getD w 2 0 + unit) (unit * nB1 w)
+      → leb least (unit * nT1 w) ≡ becomesLong d
   becomes-long-read least is-least =
       let r = header d w is in
       let a : least ≡ min (d .p + unit) (unit * ∣ d .b1 ∣) = omega arith in
@@ -59,11 +60,10 @@ module _ (i : ℕ) (d : Directory) {w : List ℕ} (is : Holds d w) (known : i �
 -- The head of list i demoted.
 pub head-demoted : {i at f : ℕ} {w w′ : List ℕ} → i ≤ 1 → 1 ≤ getD w (4 + i) 0 → at ≡ startOf i w
     → Becomes demoted (getD w (at + 1) 0) f → HeadMoved i (i + 2) f w w′ → HeadDemoted i (getD w at 0) w w′
-head-demoted {i} {f = f} known some start becomes moved d is =
+head-demoted {i} known some start becomes moved d is =
     let there : i ≤ 3 = omega arith in (
       page-read there some start d is,
-      head-moved there some start (i + 2) f demoted (λ e. refl)
-          (λ d is. becomes (frontOf (listOf (nameOf i) d)) (flags-read there some start d is)) moved d is,
+      head-moved there some start (i + 2) demoted (λ e. refl) becomes moved d is,
     )
 
 module _ {w : List ℕ} {k : Kept} (p : Passing Holds w k) where

@@ -26,7 +26,9 @@ flag-word : (w : List ℕ) (i : ℕ) → getD (flagWords w) i 0 ≡ getD w (2 * 
 flag-word [] i = refl
 flag-word (page ∷ []) i = rw add-one
 flag-word (page ∷ flags ∷ w) zero = refl
-flag-word (page ∷ flags ∷ w) (suc i) = let e : 2 * suc i + 1 ≡ suc (suc (2 * i + 1)) = omega arith in rw (e, flag-word w i)
+flag-word (page ∷ flags ∷ w) (suc i) =
+    let e : 2 * suc i + 1 ≡ suc (suc (2 * i + 1)) = omega arith in
+    rw (e, flag-word w i)
 
 -- The flags of the first n entries.
 abbrev pub flagsOf : ℕ → List ℕ → List ℕ
@@ -41,7 +43,9 @@ length-flag-words (suc n) (page ∷ flags ∷ w) e = ap suc (length-flag-words n
 
 module _ (n : ℕ) (w : List ℕ) where
   pub length-flags : 8 + 2 * n ≤ length w → length (flagsOf n w) ≡ n
-  length-flags h = length-flag-words n (take (2 * n) (drop 8 w)) (length-take-le (2 * n) (drop 8 w) (simp length-drop (omega arith)))
+  length-flags h =
+      length-flag-words n (take (2 * n) (drop 8 w))
+      (length-take-le (2 * n) (drop 8 w) (simp length-drop (omega arith)))
 
   pub flag-at : (i : ℕ) → i < n → getD (flagsOf n w) i 0 ≡ getD w (8 + 2 * i + 1) 0
   flag-at i h =

@@ -12,7 +12,7 @@ use Rattle.figures.specs.Policy.{Policy}
 use Rattle.engine.specs.Shown.{PlacedAs}
 use Rattle.engine.proofs.Placed.{placed-B1, placed-B2}
 use Rattle.entries.specs.Holds.{Holds}
-use Rattle.entries.specs.Returning.{backFromB1, backFromB2, Returned, from-b1, from-b2, is-new}
+use Rattle.entries.specs.Returning.{returnedFromB1, returnedFromB2, Returned, from-b1, from-b2, is-new}
 
 module _ {d : Directory} {x : ℕ} {e : Entry} {t : Name} {m n : ℕ} {w w′ : List ℕ} where
   pub was-new : {kind : ℕ} → Returned d x e t m n w w′ kind → kind ≡ 2
@@ -22,20 +22,21 @@ module _ {d : Directory} {x : ℕ} {e : Entry} {t : Name} {m n : ℕ} {w w′ : 
   was-new (is-new not-b1 not-b2 same) is = (not-b1, not-b2, same)
 
   pub was-in-b2 : {kind : ℕ} → Returned d x e t m n w w′ kind → kind ≡ 4
-      → (has x (d .b1) ≡ false) × (has x (d .b2) ≡ true) × Holds (backFromB2 d x e t n) w′
+      → (has x (d .b1) ≡ false) × (has x (d .b2) ≡ true) × Holds (returnedFromB2 d x e t n) w′
   was-in-b2 (from-b1 found holds) is = absurd (omega arith)
   was-in-b2 (from-b2 not-b1 found holds) is = (not-b1, found, holds)
   was-in-b2 (is-new not-b1 not-b2 same) is = absurd (omega arith)
 
   pub was-in-b1 : {kind : ℕ} → Returned d x e t m n w w′ kind → (kind ≡ 2 → ⊥) → (kind ≡ 4 → ⊥)
-      → (kind ≡ 3) × (has x (d .b1) ≡ true) × Holds (backFromB1 d x e t m) w′
+      → (kind ≡ 3) × (has x (d .b1) ≡ true) × Holds (returnedFromB1 d x e t m) w′
   was-in-b1 (from-b1 found holds) not-new not-4 = (refl, found, holds)
   was-in-b1 (from-b2 not-b1 found holds) not-new not-4 = absurd (not-4 refl)
   was-in-b1 (is-new not-b1 not-b2 same) not-new not-4 = absurd (not-new refl)
 
 -- A page that is not new is placed where the policy does nothing more.
 module _ (π : Policy) (x : ℕ) (h : Hand) {e : Entry} {t : Name} {m n : ℕ} {w w′ : List ℕ}
-    (b1 : π .placeB1 x h ≡ backFromB1 (h .dir) x e t m) (b2 : π .placeB2 x h ≡ backFromB2 (h .dir) x e t n) where
+    (b1 : π .placeB1 x h ≡ returnedFromB1 (h .dir) x e t m)
+    (b2 : π .placeB2 x h ≡ returnedFromB2 (h .dir) x e t n) where
   pub placed-back : {kind : ℕ} → Returned (h .dir) x e t m n w w′ kind → (kind ≡ 2 → ⊥) → PlacedAs Holds π x h kind w′
   placed-back (from-b1 found holds) not-new = placed-B1 Holds π x h found (rw b1 holds)
   placed-back (from-b2 not-b1 found holds) not-new = placed-B2 Holds π x h not-b1 found (rw b2 holds)

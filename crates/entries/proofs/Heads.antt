@@ -14,6 +14,7 @@ use Rattle.engine.specs.Shown.{Makes}
 use Rattle.engine.specs.Heads.{frontOf, headTo}
 use Rattle.engine.proofs.Heads.{some-front}
 use Rattle.entries.specs.Holds.{Holds}
+use Rattle.entries.specs.Flags.{Becomes}
 use Rattle.entries.specs.Leaves.{HeadMoved}
 use Rattle.entries.specs.Stretches.{Room, nameOf, startOf}
 use Rattle.entries.proofs.Laid.{length-of-list}
@@ -41,10 +42,11 @@ module _ {i at : ℕ} {w : List ℕ} (known : i ≤ 3) (some : 1 ≤ getD w (4 +
     pub flags-read : getD w (at + 1) 0 ≡ flags (frontOf list)
     flags-read = rw add-zero at (first .flags-word) ∙ ap (λ (l : List Entry). flags (frontOf l)) (sym (first .front))
 
-  -- A move to list j's tail, as `change` makes the head, whose flags there are f.
-  pub head-moved : (j f : ℕ) (change : Entry → Entry) {w′ : List ℕ} → ((e : Entry) → change e .page ≡ e .page)
-      → ((d : Directory) → Holds d w → f ≡ flags (change (frontOf (listOf (nameOf i) d))))
-      → HeadMoved i j f w w′ → Makes Holds (headTo (nameOf i) (nameOf j) change) w w′
-  head-moved j f change same flags-are moved d is =
+  -- A move to list j's tail, where the head's flags become f as `change` makes them.
+  pub head-moved : (j : ℕ) (change : Entry → Entry) {f : ℕ} {w′ : List ℕ} → ((e : Entry) → change e .page ≡ e .page)
+      → Becomes change (getD w (at + 1) 0) f → HeadMoved i j f w w′
+      → Makes Holds (headTo (nameOf i) (nameOf j) change) w w′
+  head-moved j change same becomes moved d is =
       let l = listOf (nameOf i) d in
-      moved d (frontOf l) (change (frontOf l)) (dropHead l) is (some-front l (list-some d is)) (same (frontOf l)) (flags-are d is)
+      let e = frontOf l in
+      moved d e (change e) (dropHead l) is (some-front l (list-some d is)) (same e) (becomes e (flags-read d is))

@@ -1,4 +1,4 @@
--- Where a page stands in a list: below its length just where the list has the page, and what stands before and after it.
+-- Where a page stands in a list: below its length just where the list has the page, and what stands around it.
 -- For `find`, which counts the entries before the page, and for what is then done to the entry that it names.
 use mathlib.Core.Path.{_≡_, refl, ap}
 use mathlib.Core.Bool.{Bool, true, false, _||_, true≢false, false≢true}
@@ -56,8 +56,10 @@ pub around : (x : ℕ) (l : List Entry) → index x l < ∣ l ∣ → Around x l
 around x [] h = absurd (omega arith)
 around x (e ∷ l) h = go (eqb (e .page) x) refl h (around x l)
   where
-    go : (b : Bool) → eqb (e .page) x ≡ b → (if b then 0 else suc (index x l)) < suc ∣ l ∣ → (index x l < ∣ l ∣ → Around x l) → Around x (e ∷ l)
-    go true i h k = record { ahead = []; it = e; behind = l; whole = refl; length-ahead = rw i; left = rw i; marks = rw i }
+    go : (b : Bool) → eqb (e .page) x ≡ b → (if b then 0 else suc (index x l)) < suc ∣ l ∣
+        → (index x l < ∣ l ∣ → Around x l) → Around x (e ∷ l)
+    go true i h k =
+        record { ahead = []; it = e; behind = l; whole = refl; length-ahead = rw i; left = rw i; marks = rw i }
     go false i h k =
         let r = k (omega arith) in
         record {
@@ -74,7 +76,8 @@ pub has-append : (x : ℕ) (a b : List Entry) → has x (a ++ b) ≡ has x a || 
 has-append x [] b = refl
 has-append x (e ∷ a) b = go (eqb (e .page) x) (has-append x a b)
   where
-    go : (t : Bool) → has x (a ++ b) ≡ has x a || has x b → (if t then true else has x (a ++ b)) ≡ (if t then true else has x a) || has x b
+    go : (t : Bool) → has x (a ++ b) ≡ has x a || has x b
+        → (if t then true else has x (a ++ b)) ≡ (if t then true else has x a) || has x b
     go true h = refl
     go false h = h
 

@@ -34,7 +34,9 @@ pub record Header (d : Directory) (w : List ℕ) : Type 0 where
   pub b2 : getD w 7 0 ≡ ∣ d .b2 ∣
 
 pub header : (d : Directory) (w : List ℕ) → Holds d w → Header d w
-header d w is = subst (Header d) is (record { policy = refl; c = refl; p = refl; q = refl; t1 = refl; t2 = refl; b1 = refl; b2 = refl })
+header d w is =
+    subst (Header d) is
+    (record { policy = refl; c = refl; p = refl; q = refl; t1 = refl; t2 = refl; b1 = refl; b2 = refl })
 
 -- The words with another target.
 pub with-p : (d : Directory) {w : List ℕ} {p p′ : ℕ} → Holds d w → p ≡ p′ → Holds (withP p′ d) (set w 2 p)
@@ -95,7 +97,8 @@ length-in-heads (suc (suc zero)) d h = refl
 length-in-heads (suc (suc (suc zero))) d h = refl
 length-in-heads (suc (suc (suc (suc i)))) d h = absurd (omega arith)
 
-pub heads-with : (i : ℕ) (l : List Entry) (d : Directory) → i ≤ 3 → heads (withList (nameOf i) l d) ≡ set (heads d) (4 + i) ∣ l ∣
+pub heads-with : (i : ℕ) (l : List Entry) (d : Directory) → i ≤ 3
+    → heads (withList (nameOf i) l d) ≡ set (heads d) (4 + i) ∣ l ∣
 heads-with zero l d h = refl
 heads-with (suc zero) l d h = refl
 heads-with (suc (suc zero)) l d h = refl
@@ -127,7 +130,8 @@ place-next (suc (suc zero)) d h = omega arith
 place-next (suc (suc (suc zero))) d h = omega arith
 place-next (suc (suc (suc (suc i)))) d h = absurd (omega arith)
 
-pub length-of-list : (i : ℕ) (d : Directory) (w : List ℕ) → Holds d w → i ≤ 3 → getD w (4 + i) 0 ≡ ∣ listOf (nameOf i) d ∣
+pub length-of-list : (i : ℕ) (d : Directory) (w : List ℕ) → Holds d w → i ≤ 3
+    → getD w (4 + i) 0 ≡ ∣ listOf (nameOf i) d ∣
 length-of-list i d w is h =
     ap (λ (l : List ℕ). getD l (4 + i) 0) (sym is)
     ∙ List·getD-append (heads d) (drop 8 (encode d)) 0 (4 + i) (omega arith)
@@ -155,7 +159,8 @@ place-behind (suc zero) (suc (suc (suc zero))) l d g h k = omega arith
 place-behind (suc zero) (suc (suc (suc (suc j)))) l d g h k = absurd (omega arith)
 place-behind (suc (suc i)) j l d g h k = absurd (omega arith)
 
-pub place-before : (i j : ℕ) (l : List Entry) (d : Directory) → i ≤ 1 → 2 ≤ j → place (i + 1) (withList (nameOf j) l d) ≡ place (i + 1) d
+pub place-before : (i j : ℕ) (l : List Entry) (d : Directory) → i ≤ 1 → 2 ≤ j
+    → place (i + 1) (withList (nameOf j) l d) ≡ place (i + 1) d
 place-before zero zero l d h k = absurd (omega arith)
 place-before zero (suc zero) l d h k = absurd (omega arith)
 place-before zero (suc (suc zero)) l d h k = refl
@@ -169,15 +174,20 @@ place-before (suc (suc i)) j l d h k = absurd (omega arith)
 -- One entry of list i among all listed.
 module _ (e : Entry) (a b : List Entry) (d : Directory) where
   listed-with : (i : ℕ) → i ≤ 3
-      → listed (withList (nameOf i) (a ++ (e ∷ b)) d) ≡ insert (place i d + ∣ a ∣) e (listed (withList (nameOf i) (a ++ b) d))
+      → listed (withList (nameOf i) (a ++ (e ∷ b)) d)
+      ≡ insert (place i d + ∣ a ∣) e (listed (withList (nameOf i) (a ++ b) d))
   listed-with zero h =
-      put-in (place 0 d + ∣ a ∣) e a (b ++ (d .t2 ++ (d .b1 ++ d .b2))) _ _ (omega arith) (simp append-assoc) (simp append-assoc)
+      put-in (place 0 d + ∣ a ∣) e a (b ++ (d .t2 ++ (d .b1 ++ d .b2))) _ _ (omega arith)
+      (simp append-assoc) (simp append-assoc)
   listed-with (suc zero) h =
-      put-in (place 1 d + ∣ a ∣) e (d .t1 ++ a) (b ++ (d .b1 ++ d .b2)) _ _ (simp length-append) (simp append-assoc) (simp append-assoc)
+      put-in (place 1 d + ∣ a ∣) e (d .t1 ++ a) (b ++ (d .b1 ++ d .b2)) _ _ (simp length-append)
+      (simp append-assoc) (simp append-assoc)
   listed-with (suc (suc zero)) h =
-      put-in (place 2 d + ∣ a ∣) e (d .t1 ++ (d .t2 ++ a)) (b ++ d .b2) _ _ (simp length-append (omega arith)) (simp append-assoc) (simp append-assoc)
+      put-in (place 2 d + ∣ a ∣) e (d .t1 ++ (d .t2 ++ a)) (b ++ d .b2) _ _ (simp length-append (omega arith))
+      (simp append-assoc) (simp append-assoc)
   listed-with (suc (suc (suc zero))) h =
-      put-in (place 3 d + ∣ a ∣) e (d .t1 ++ (d .t2 ++ (d .b1 ++ a))) b _ _ (simp length-append (omega arith)) (simp append-assoc) (simp append-assoc)
+      put-in (place 3 d + ∣ a ∣) e (d .t1 ++ (d .t2 ++ (d .b1 ++ a))) b _ _ (simp length-append (omega arith))
+      (simp append-assoc) (simp append-assoc)
   listed-with (suc (suc (suc (suc i)))) h = absurd (omega arith)
 
 pub listed-around : (i : ℕ) (e : Entry) (a b : List Entry) (d : Directory) → i ≤ 3 → listOf (nameOf i) d ≡ a ++ (e ∷ b)
@@ -187,7 +197,8 @@ listed-around i e a b d h is =
     ∙ ap (λ (l : List Entry). listed (withList (nameOf i) l d)) is
     ∙ listed-with e a b d i h
 
-pub listed-tail : (i : ℕ) (e : Entry) (d : Directory) → i ≤ 3 → listed (toTail (nameOf i) e d) ≡ insert (place (i + 1) d) e (listed d)
+pub listed-tail : (i : ℕ) (e : Entry) (d : Directory) → i ≤ 3
+    → listed (toTail (nameOf i) e d) ≡ insert (place (i + 1) d) e (listed d)
 listed-tail i e d h =
     listed-with e (listOf (nameOf i) d) [] d i h
     ∙ rw (append-nil, with-its-own i d, place-next i d h)

@@ -1,10 +1,11 @@
--- What the leaves that turn a stretch, put an entry in or take one out do to the directory that the words hold.
--- An entry stands behind a number of others among all listed entries, and the leaf moves it from there.
+-- What the leaves that move an entry on or back, put one in or take one out do to the words of a directory.
+-- The listed entries are named in parts, around the entry and the place that it goes to.
 use mathlib.Core.Path.{_≡_, sym, ap, _∙_}
 use mathlib.Core.List.{List, [], _∷_, _++_, append-assoc}
 use Prim.Native.Nat.{ℕ, zero, suc, _+_, _-_, _*_, _≤_}
 use native.Mathlib.Omega.{arith}
-use lib.ListN.{length, getD, set, take, drop, replicate, length-append, length-set, length-drop, length-replicate, take-append-drop}
+use lib.ListN.{length, getD, set, take, drop, replicate}
+use lib.ListN.{length-append, length-set, length-drop, length-replicate, take-append-drop}
 use lib.Seq.{take-add, drop-drop, length-take-le, getD-at, set-at, set-append-left}
 use Rattle.terms.specs.Choice.{∣_∣}
 use Rattle.figures.specs.Entry.{Entry}
@@ -15,6 +16,10 @@ use Rattle.entries.specs.Holds.{Holds}
 use Rattle.entries.specs.Leaves.{ToEnd, PutIn, TakenOut}
 use Rattle.entries.proofs.Laid.{heads, laid, zeros-after, insert}
 
+-- The entries of d′ stand in L, and in front of them still the eight words of d.
+abbrev pub LaidBehind : Directory → Directory → List ℕ → Type 0
+LaidBehind d d′ L = L ≡ heads d ++ (words (listed d′) ++ zeros d′)
+
 same-zeros : (d d′ : Directory) → d′ .c ≡ d .c → ∣ listed d′ ∣ ≡ ∣ listed d ∣ → zeros d ≡ zeros d′
 same-zeros d d′ h i = zeros-after d ∙ rw (← h, ← i) (sym (zeros-after d′))
 
@@ -23,37 +28,41 @@ two-zeros zero h = absurd (omega arith)
 two-zeros (suc zero) h = absurd (omega arith)
 two-zeros (suc (suc n)) h = let e : n ≡ suc (suc n) - 2 = omega arith in rw (← e)
 
-fewer-zeros : (d d′ : Directory) → d′ .c ≡ d .c → ∣ listed d′ ∣ ≡ ∣ listed d ∣ + 1 → 2 + 2 * ∣ listed d ∣ ≤ 4 * d .c → zeros d ≡ 0 ∷ 0 ∷ zeros d′
+fewer-zeros : (d d′ : Directory) → d′ .c ≡ d .c → ∣ listed d′ ∣ ≡ ∣ listed d ∣ + 1 → 2 + 2 * ∣ listed d ∣ ≤ 4 * d .c
+    → zeros d ≡ 0 ∷ 0 ∷ zeros d′
 fewer-zeros d d′ h i k =
     let e : 4 * d .c - 2 * ∣ listed d ∣ - 2 ≡ 4 * d′ .c - 2 * ∣ listed d′ ∣ = omega arith in
     zeros-after d ∙ two-zeros (4 * d .c - 2 * ∣ listed d ∣) (omega arith) ∙ rw (e, ← zeros-after d′)
 
 -- The words, where the listed entries are in three parts and an entry goes over the middle one.
 module _ (d d′ : Directory) (A B C : List Entry) (e e′ : Entry) (w L : List ℕ) (s z v : ℕ) (is : Holds d w)
-    (size : d′ .c ≡ d .c) (start : s ≡ 8 + 2 * ∣ A ∣) (end : z ≡ s + 2 * ∣ B ∣ + 2) (x : ℕ) (page : e′ .page ≡ x) (new : v ≡ flags e′) where
+    (size : d′ .c ≡ d .c) (start : s ≡ 8 + 2 * ∣ A ∣) (end : z ≡ s + 2 * ∣ B ∣ + 2)
+    (x : ℕ) (page : e′ .page ≡ x) (new : v ≡ flags e′) where
   pub moved-on : listed d ≡ A ++ (e ∷ (B ++ C)) → listed d′ ≡ A ++ (B ++ (e′ ∷ C)) → e .page ≡ x → ToEnd s z v w L
-      → L ≡ heads d ++ (words (listed d′) ++ zeros d′)
+      → LaidBehind d d′ L
   moved-on from to same does =
       let split : w ≡ (heads d ++ words A) ++ (e .page ∷ flags e ∷ (words B ++ (words C ++ zeros d))) =
       sym is ∙ laid d ∙ rw from (simp (words-append, append-assoc)) in
       let zs : zeros d ≡ zeros d′ = same-zeros d d′ size (rw (from, to) (simp length-append (omega arith))) in
-      does (heads d ++ words A) (words B) (words C ++ zeros d) (e .page) (flags e) split (omega (arith, length-words A)) (omega (arith, length-words B))
+      does (heads d ++ words A) (words B) (words C ++ zeros d) (e .page) (flags e) split
+      (omega (arith, length-words A)) (omega (arith, length-words B))
       ∙ rw (to, ← zs, new, same, ← page) (simp (words-append, append-assoc))
 
   pub moved-back : listed d ≡ A ++ (B ++ (e ∷ C)) → listed d′ ≡ A ++ (e′ ∷ (B ++ C)) → PutIn s z x v w L
-      → L ≡ heads d ++ (words (listed d′) ++ zeros d′)
+      → LaidBehind d d′ L
   moved-back from to does =
       let split : w ≡ (heads d ++ words A) ++ (words B ++ (e .page ∷ flags e ∷ (words C ++ zeros d))) =
       sym is ∙ laid d ∙ rw from (simp (words-append, append-assoc)) in
       let zs : zeros d ≡ zeros d′ = same-zeros d d′ size (rw (from, to) (simp length-append (omega arith))) in
-      does (heads d ++ words A) (words B) (words C ++ zeros d) (e .page) (flags e) split (omega (arith, length-words A)) (omega (arith, length-words B))
+      does (heads d ++ words A) (words B) (words C ++ zeros d) (e .page) (flags e) split
+      (omega (arith, length-words A)) (omega (arith, length-words B))
       ∙ rw (to, ← zs, new, ← page) (simp (words-append, append-assoc))
 
 -- The words, where an entry is put in among the listed ones, or one of them is dropped.
 module _ (d d′ : Directory) (A B : List Entry) (e : Entry) (w L : List ℕ) (s z : ℕ) (is : Holds d w)
     (size : d′ .c ≡ d .c) (start : s ≡ 8 + 2 * ∣ A ∣) (end : z ≡ s + 2 * ∣ B ∣ + 2) where
   pub added : listed d ≡ A ++ B → listed d′ ≡ A ++ (e ∷ B) → z ≤ length w → PutIn s z (e .page) (flags e) w L
-      → L ≡ heads d ++ (words (listed d′) ++ zeros d′)
+      → LaidBehind d d′ L
   added from to room does =
       let n : ∣ listed d ∣ ≡ ∣ A ∣ + ∣ B ∣ = rw from (length-append A B) in
       let n′ : ∣ listed d′ ∣ ≡ ∣ A ∣ + ∣ B ∣ + 1 = rw to (simp length-append (omega arith)) in
@@ -62,18 +71,20 @@ module _ (d d′ : Directory) (A B : List Entry) (e : Entry) (w L : List ℕ) (s
       let zs : zeros d ≡ 0 ∷ 0 ∷ zeros d′ = fewer-zeros d d′ size (omega arith) (omega arith) in
       let split : w ≡ (heads d ++ words A) ++ (words B ++ (0 ∷ 0 ∷ zeros d′)) =
       sym is ∙ laid d ∙ rw (from, zs) (simp (words-append, append-assoc)) in
-      does (heads d ++ words A) (words B) (zeros d′) 0 0 split (omega (arith, length-words A)) (omega (arith, length-words B))
+      does (heads d ++ words A) (words B) (zeros d′) 0 0 split
+      (omega (arith, length-words A)) (omega (arith, length-words B))
       ∙ rw to (simp (words-append, append-assoc))
 
   pub dropped : listed d ≡ A ++ (e ∷ B) → listed d′ ≡ A ++ B → ∣ listed d ∣ ≤ 2 * d .c → TakenOut s z w L
-      → L ≡ heads d ++ (words (listed d′) ++ zeros d′)
+      → LaidBehind d d′ L
   dropped from to room does =
       let n : ∣ listed d ∣ ≡ ∣ A ∣ + ∣ B ∣ + 1 = rw from (simp length-append (omega arith)) in
       let n′ : ∣ listed d′ ∣ ≡ ∣ A ∣ + ∣ B ∣ = rw to (length-append A B) in
       let zs : zeros d′ ≡ 0 ∷ 0 ∷ zeros d = fewer-zeros d′ d (sym size) (omega arith) (omega arith) in
       let split : w ≡ (heads d ++ words A) ++ (e .page ∷ flags e ∷ (words B ++ zeros d)) =
       sym is ∙ laid d ∙ rw from (simp (words-append, append-assoc)) in
-      does (heads d ++ words A) (words B) (zeros d) (e .page) (flags e) split (omega (arith, length-words A)) (omega (arith, length-words B))
+      does (heads d ++ words A) (words B) (zeros d) (e .page) (flags e) split
+      (omega (arith, length-words A)) (omega (arith, length-words B))
       ∙ rw (to, zs) (simp (words-append, append-assoc))
 
 -- The words, where an entry gets other flags and stays in its place.
@@ -88,17 +99,19 @@ module _ (d d′ : Directory) (A C : List Entry) (e e′ : Entry) (w : List ℕ)
   pub flags-at : getD w at 0 ≡ flags e
   flags-at = rw split (getD-at (heads d ++ (words A ++ (e .page ∷ []))) (flags e) (words C ++ zeros d) 0 at front)
 
-  pub reflagged : listed d′ ≡ A ++ (e′ ∷ C) → d′ .c ≡ d .c → e′ .page ≡ e .page → v ≡ flags e′ → set w at v ≡ heads d ++ (words (listed d′) ++ zeros d′)
+  pub reflagged : listed d′ ≡ A ++ (e′ ∷ C) → d′ .c ≡ d .c → e′ .page ≡ e .page → v ≡ flags e′
+      → LaidBehind d d′ (set w at v)
   reflagged to size page new =
       let zs : zeros d ≡ zeros d′ = same-zeros d d′ size (rw (from, to) (simp length-append)) in
-      let after : heads d ++ (words (listed d′) ++ zeros d′) ≡ (heads d ++ (words A ++ (e′ .page ∷ []))) ++ (flags e′ ∷ (words C ++ zeros d)) =
+      let after : heads d ++ (words (listed d′) ++ zeros d′)
+      ≡ (heads d ++ (words A ++ (e′ .page ∷ []))) ++ (flags e′ ∷ (words C ++ zeros d)) =
       rw (to, ← zs) (simp (words-append, append-assoc)) in
       ap (λ (l : List ℕ). set l at v) split
       ∙ set-at (heads d ++ (words A ++ (e .page ∷ []))) (flags e) (words C ++ zeros d) v at front
       ∙ sym (rw (new, ← page) after)
 
 -- The words once the lengths in front are stored.
-module _ (d d′ : Directory) (L : List ℕ) (is : L ≡ heads d ++ (words (listed d′) ++ zeros d′)) where
+module _ (d d′ : Directory) (L : List ℕ) (is : LaidBehind d d′ L) where
   pub no-length-set : heads d′ ≡ heads d → Holds d′ L
   no-length-set e = laid d′ ∙ ap (λ (l : List ℕ). l ++ (words (listed d′) ++ zeros d′)) e ∙ sym is
 
@@ -131,7 +144,8 @@ pub record Parts (l : List Entry) (a b : ℕ) : Type 0 where
 pub parts : (l : List Entry) (a b : ℕ) → a ≤ b → b ≤ ∣ l ∣ → Parts l a b
 parts l a b h k =
     let n : a + (b - a) ≡ b = omega arith in
-    let from-a : drop a l ≡ take (b - a) (drop a l) ++ drop b l = sym (take-append-drop (b - a) (drop a l)) ∙ rw (drop-drop, n) in
+    let from-a : drop a l ≡ take (b - a) (drop a l) ++ drop b l =
+    sym (take-append-drop (b - a) (drop a l)) ∙ rw (drop-drop, n) in
     let to-b : take b l ≡ take a l ++ take (b - a) (drop a l) = rw n at (take-add a (b - a) l) in
     record {
       first = take a l;

@@ -28,7 +28,8 @@ pub held : {w : List ℕ} {a : ℕ} {l : List Entry} (P R : List ℕ) → w ≡ 
 held P R parts starts = record { before = P; after = R; parts = parts; starts = starts }
 
 -- so they hold its entries from i on,
-pub held-from : {w : List ℕ} {a : ℕ} {l : List Entry} → Held w a l → (i : ℕ) → i ≤ length l → Held w (a + 2 * i) (drop i l)
+pub held-from : {w : List ℕ} {a : ℕ} {l : List Entry} → Held w a l → (i : ℕ) → i ≤ length l
+    → Held w (a + 2 * i) (drop i l)
 held-from {l = l} h i fits =
     let split : words l ≡ words (take i l) ++ words (drop i l) = rw (← words-append, take-append-drop) in
     record {
@@ -59,7 +60,8 @@ entry-at {w} {a} {l} h i fits =
     record { here = e; front = front; page-word = first-page there; flags-word = first-flags there }
 
 -- What a search says of every list that stands there it says of this one.
-pub told : {Of : List Entry → Type 0} {w : List ℕ} {a a′ n : ℕ} {l : List Entry} → Held w a l → OfEntries w a′ n Of → a ≡ a′ → ∣ l ∣ ≡ n → Of l
+pub told : {Of : List Entry → Type 0} {w : List ℕ} {a a′ n : ℕ} {l : List Entry} → Held w a l → OfEntries w a′ n Of
+    → a ≡ a′ → ∣ l ∣ ≡ n → Of l
 told {l = l} h says at many = says (h .before) (h .after) l (h .parts) (h .starts ∙ at) many
 
 -- The words of a directory hold any stretch of its listed entries,
@@ -69,7 +71,8 @@ module _ (d : Directory) (w : List ℕ) (is : Holds d w) where
     before = heads d ++ words A;
     after = words B ++ zeros d;
     parts =
-        sym is ∙ laid d ∙ ap (λ (l : List Entry). heads d ++ (words l ++ zeros d)) cut ∙ simp (words-append, append-assoc);
+        sym is ∙ laid d ∙ ap (λ (l : List Entry). heads d ++ (words l ++ zeros d)) cut
+        ∙ simp (words-append, append-assoc);
     starts = simp length-words (omega arith);
   }
 
@@ -83,7 +86,8 @@ module _ (d : Directory) (w : List ℕ) (is : Holds d w) where
   list-held (suc zero) h =
       stretch-held (d .t1) (d .t2) (d .b1 ++ d .b2) refl _ (omega (arith, header d w is))
   list-held (suc (suc zero)) h =
-      stretch-held (d .t1 ++ d .t2) (d .b1) (d .b2) (simp append-assoc) _ (simp length-append (omega (arith, header d w is)))
+      stretch-held (d .t1 ++ d .t2) (d .b1) (d .b2) (simp append-assoc) _
+      (simp length-append (omega (arith, header d w is)))
   list-held (suc (suc (suc zero))) h =
       stretch-held (d .t1 ++ (d .t2 ++ d .b1)) (d .b2) [] (simp (append-assoc, append-nil)) _
       (simp length-append (omega (arith, header d w is)))

@@ -54,7 +54,8 @@ filled {w = w} known =
     }
 
 -- What the evict part leaves of them is what a page that comes back, or a new one, needs.
-pub freed : {policy : ℕ} {w W : List ℕ} → Filled policy w → (d′ : Directory) → Holds d′ W → Opened (decode w) d′ → Freed W
+pub freed : {policy : ℕ} {w W : List ℕ} → Filled policy w → (d′ : Directory) → Holds d′ W → Opened (decode w) d′
+    → Freed W
 freed {W = W} f d′ is o =
     let h = header d′ W is in
     let s = f .shared in
@@ -76,9 +77,11 @@ pub record RoomForOne (d d′ : Directory) : Type 0 where
   pub one-fits : cached d′ + remembered d′ + 1 ≤ 2 * d .c
   pub same-c : d′ .c ≡ d .c
 
-pub room-for-new : (d d′ : Directory) {w : List ℕ} → Holds d′ w → RoomForOne d d′ → d .c ≤ 1024 → Room w × (startOf 4 w + 2 ≤ ∣ w ∣)
+pub room-for-new : (d d′ : Directory) {w : List ℕ} → Holds d′ w → RoomForOne d d′ → d .c ≤ 1024
+    → Room w × (startOf 4 w + 2 ≤ ∣ w ∣)
 room-for-new d d′ is fits small =
     let c = fits .same-c in
     let one = fits .one-fits in
     let n = words-fit d′ (omega arith) in
-    subst (λ (v : List ℕ). Room v × (startOf 4 v + 2 ≤ ∣ v ∣)) is (roomy d′ refl (omega arith) (omega arith), omega arith)
+    subst (λ (v : List ℕ). Room v × (startOf 4 v + 2 ≤ ∣ v ∣)) is
+    (roomy d′ refl (omega arith) (omega arith), omega arith)

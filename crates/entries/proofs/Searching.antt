@@ -1,5 +1,5 @@
--- A list searched entry by entry: for a page, and for a page that stands in it twice.
--- For the loops of `find` and `pages_differ`, and what a search of list i says of the directory.
+-- A list searched entry by entry: for a page, for a page that stands in it twice, for a flag.
+-- For the loops of `find`, `pages_differ` and `count`, and what a search of list i says of the directory.
 use mathlib.Core.Path.{_≡_, sym, ap, _∙_}
 use mathlib.Core.Bool.{true, false}
 use mathlib.Core.List.{List}
@@ -7,9 +7,10 @@ use Prim.Native.Nat.{ℕ, suc, _+_, _-_, _*_, _≤_, _<_}
 use native.Mathlib.Omega.{arith}
 use lib.ListN.{length, drop, getD, length-drop}
 use borrow.Author.Tests.{eq-eqb, ne-eqb}
-use Rattle.figures.specs.Entry.{Entry, has, differ}
+use Rattle.figures.specs.Entry.{Entry, has, differ, total}
 use Rattle.figures.specs.Directory.{Directory, listOf}
 use Rattle.entries.specs.Holds.{Holds}
+use Rattle.entries.specs.Flags.{Says, ofFlag}
 use Rattle.entries.specs.Leaves.{OfEntries, FoundIn}
 use Rattle.entries.specs.Stretches.{nameOf, startOf, index}
 use Rattle.entries.proofs.Laid.{length-of-list}
@@ -40,13 +41,21 @@ module _ {w : List ℕ} {a n i k : ℕ} {l : List Entry} (h : Held w a l) (many 
   length-later = simp length-drop (omega arith)
 
   place : k ≡ index (s .here .page) later
-  place = told (held-from h (i + 1) (omega arith)) found (omega arith) length-later ∙ ap (λ (x : ℕ). index x later) (s .page-word)
+  place =
+      told (held-from h (i + 1) (omega arith)) found (omega arith) length-later
+      ∙ ap (λ (x : ℕ). index x later) (s .page-word)
 
   pub differ-not : k < n - i - 1 → differ (drop i l) ≡ false
   differ-not is = rw (s .front, index-has (s .here .page) later (omega (arith, place, length-later)))
 
   pub differ-later : n - i - 1 ≤ k → differ (drop i l) ≡ differ (drop (i + 1) l)
   differ-later is = rw (s .front, index-lacks (s .here .page) later (omega (arith, place, length-later)))
+
+-- What a list counts for by a flag is what its entry i counts for and what the later ones do.
+pub count-more : {w : List ℕ} {a : ℕ} {l : List Entry} {i : ℕ} → EntryAt w a l i → (flag : ℕ) {r : ℕ}
+    → Says (ofFlag flag) (getD w (a + 2 * i + 1) 0) r
+    → total (ofFlag flag) (drop i l) ≡ r + total (ofFlag flag) (drop (i + 1) l)
+count-more s flag says = rw (s .front, says (s .here) (s .flags-word))
 
 -- What `find` says where list i of a directory is searched.
 module _ (d : Directory) (w : List ℕ) (is : Holds d w) (i : ℕ) (named : i ≤ 3) (a n x k : ℕ)

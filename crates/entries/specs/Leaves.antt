@@ -5,8 +5,8 @@ use mathlib.Core.List.{List, _∷_, _++_}
 use Prim.Native.Nat.{ℕ, _+_, _*_, _≤_}
 use lib.ListN.{getD}
 use Rattle.terms.specs.Choice.{∣_∣}
-use Rattle.figures.specs.Entry.{Entry, cleared, without, dropHead, total}
-use Rattle.figures.specs.Directory.{Directory, T1, T2, listOf, withList, toTail, hit, cached, remembered}
+use Rattle.figures.specs.Entry.{Entry, without, dropHead, total}
+use Rattle.figures.specs.Directory.{Directory, listOf, withList, toTail, hit, cached, remembered}
 use Rattle.figures.specs.Words.{flags, words}
 use Rattle.entries.specs.Holds.{Holds}
 use Rattle.entries.specs.Flags.{ofFlag}
@@ -37,12 +37,6 @@ HeadMoved i j f′ w w′ =
     → e′ .page ≡ e .page → f′ ≡ flags e′
     → Holds (toTail (nameOf j) e′ (withList (nameOf i) es d)) w′
 
--- T2's head, its bit cleared, becomes T1's tail.
-abbrev pub BorderMoved : List ℕ → List ℕ → Type 0
-BorderMoved w w′ =
-    (d : Directory) (e : Entry) (es : List Entry) → Holds d w → d .t2 ≡ e ∷ es
-    → Holds (toTail T1 (cleared e) (withList T2 es d)) w′
-
 -- Entry k of the history b, which is for page, becomes the tail of list t with flags f′.
 abbrev pub CameBack : ℕ → ℕ → ℕ → ℕ → ℕ → List ℕ → List ℕ → Type 0
 CameBack b k t page f′ w w′ =
@@ -61,7 +55,8 @@ Marked k w w′ = (d : Directory) (x : ℕ) → Holds d w → k ≡ index x (d .
 
 -- What is so of every list of n entries that stands in the words from word a on.
 abbrev pub OfEntries : List ℕ → ℕ → ℕ → (List Entry → Type 0) → Type 0
-OfEntries w a n P = (before after : List ℕ) (l : List Entry) → w ≡ before ++ (words l ++ after) → ∣ before ∣ ≡ a → ∣ l ∣ ≡ n → P l
+OfEntries w a n P =
+    (before after : List ℕ) (l : List Entry) → w ≡ before ++ (words l ++ after) → ∣ before ∣ ≡ a → ∣ l ∣ ≡ n → P l
 
 -- Page x is found at k, where n is nowhere.
 abbrev pub FoundAt : List ℕ → ℕ → ℕ → ℕ → ℕ → Type 0

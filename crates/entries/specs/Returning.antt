@@ -30,17 +30,18 @@ pub record Freed (w : List ℕ) : Type 0 where
 
 -- The directory with page x, which was in B1 or in B2, as e at the tail of list t, and with the new target.
 module _ (d : Directory) (x : ℕ) (e : Entry) (t : Name) (dividend : ℕ) where
-  abbrev pub backFromB1 : Directory
-  backFromB1 = toTail t e (withList B1 (without x (d .b1)) (withP (raisedTarget dividend d) d))
+  abbrev pub returnedFromB1 : Directory
+  returnedFromB1 = toTail t e (withList B1 (without x (d .b1)) (withP (raisedTarget dividend d) d))
 
-  abbrev pub backFromB2 : Directory
-  backFromB2 = toTail t e (withList B2 (without x (d .b2)) (withP (loweredTarget dividend d) d))
+  abbrev pub returnedFromB2 : Directory
+  returnedFromB2 = toTail t e (withList B2 (without x (d .b2)) (withP (loweredTarget dividend d) d))
 
--- Where page x was and what the words w′ hold, by the answer's kind. The words w held d; m and n are the dividends for a
--- page found in B1 and in B2.
+-- Where page x was and what the words w′ hold, by the answer's kind. The words w held d; m and n are the dividends for
+-- a page found in B1 and in B2.
 pub data Returned (d : Directory) (x : ℕ) (e : Entry) (t : Name) (m n : ℕ) (w w′ : List ℕ) : ℕ → Type 0 where
-  from-b1 : has x (d .b1) ≡ true → Holds (backFromB1 d x e t m) w′ → Returned d x e t m n w w′ 3
-  from-b2 : has x (d .b1) ≡ false → has x (d .b2) ≡ true → Holds (backFromB2 d x e t n) w′ → Returned d x e t m n w w′ 4
+  from-b1 : has x (d .b1) ≡ true → Holds (returnedFromB1 d x e t m) w′ → Returned d x e t m n w w′ 3
+  from-b2 : has x (d .b1) ≡ false → has x (d .b2) ≡ true → Holds (returnedFromB2 d x e t n) w′
+      → Returned d x e t m n w w′ 4
   is-new : has x (d .b1) ≡ false → has x (d .b2) ≡ false → w′ ≡ w → Returned d x e t m n w w′ 2
 
 -- The same of every directory that the words w hold, and of every entry of the page that has the flags asked for.

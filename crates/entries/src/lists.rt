@@ -3,11 +3,13 @@
 ghost use mathlib.Core.Path.{_≡_};
 ghost use Prim.Native.Nat.{_+_, _≤_, _<_};
 ghost use lib.ListN.{length, getD};
-ghost use Rattle.figures.specs.Directory.{placeNew};
+ghost use Rattle.figures.specs.Entry.{cleared};
+ghost use Rattle.figures.specs.Directory.{T1, T2, placeNew};
 ghost use Rattle.engine.specs.Shown.{Makes};
+ghost use Rattle.engine.specs.Heads.{headTo};
 ghost use Rattle.entries.specs.Holds.{Holds};
 ghost use Rattle.entries.specs.Stretches.{Room, startOf};
-ghost use Rattle.entries.specs.Leaves.{FoundIn, HeadMoved, BorderMoved, CameBack, HistoryHeadDropped, Marked};
+ghost use Rattle.entries.specs.Leaves.{FoundIn, HeadMoved, CameBack, HistoryHeadDropped, Marked};
 use crate::flags;
 use crate::header;
 use crate::search;
@@ -80,7 +82,7 @@ pub fn move_head(dir: &mut [u32], i: usize, j: usize, flags: u32)
 pub fn t2_head_to_t1(dir: &mut [u32])
     requires { ⌜ Room (now dir) ⌝ }
     requires { ⌜ 1 ≤ getD (now dir) 5 0 ⌝ }
-    ensures { λ _. ⌜ BorderMoved (now (dir .entry)) (now (dir .exit)) ⌝ }
+    ensures { λ _. ⌜ Makes Holds (headTo T2 T1 cleared) (now (dir .entry)) (now (dir .exit)) ⌝ }
 {
     let n1 = dir[header::T1_LENGTH];
     let n2 = dir[header::T2_LENGTH];

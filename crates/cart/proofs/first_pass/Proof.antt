@@ -49,8 +49,7 @@ moved : (c : tie.After-t2-head-to-t1 Inv-loop μ-loop) → let l = in-then1 (c .
     (afterMove (l .now .short) (l .now .long) (l .now .hand .cleared + 1) (l .now))
 moved c =
     let t = in-then1 (c .before) in
-    first-looks (t .before .before .loop .inv .0) (set t)
-    (λ d is. c .t2-head-to-t1 .ensures d _ _ is (set-front (d .t2) (set t d is)))
+    first-looks (t .before .before .loop .inv .0) (set t) (c .t2-head-to-t1 .ensures)
 
 looked : (c : tie.After-raise Inv-loop μ-loop)
     → let l = at-loop c .loop in

@@ -7,7 +7,7 @@ use lib.ListN.{length, drop, drop-of-length-le}
 use Rattle.figures.specs.Entry.{Entry, total}
 use Rattle.entries.specs.Flags.{ofFlag}
 use Rattle.entries.proofs.Reading.{Held, held, entry-at}
-use Rattle.entries.proofs.Counting.{count-more}
+use Rattle.entries.proofs.Searching.{count-more}
 use borrow.Author.Needs.{needs}
 use Rattle.entries.proofs.search.count.Statement.{statement}
 use Rattle.entries.proofs.search.count.Tie as tie

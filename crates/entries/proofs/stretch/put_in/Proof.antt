@@ -5,7 +5,7 @@ use Prim.Native.Nat.{ℕ}
 use native.Mathlib.Omega.{arith}
 use lib.ListN.{length-append}
 use lib.Seq.{append-snoc}
-use Rattle.entries.proofs.Turning.{pushed}
+use Rattle.entries.proofs.Shifts.{pushed}
 use borrow.Author.Needs.{needs}
 use Rattle.entries.proofs.stretch.put_in.Statement.{statement}
 use Rattle.entries.proofs.stretch.put_in.Tie as tie

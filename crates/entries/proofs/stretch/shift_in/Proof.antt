@@ -5,7 +5,7 @@ use Prim.Native.Nat.{ℕ, suc, _≤_, _-_}
 use native.Mathlib.Numerals.{add-one}
 use native.Mathlib.Omega.{arith}
 use lib.ListN.{length, getD, set, length-set}
-use Rattle.entries.proofs.Turning.{over, over-none, over-read, over-more, over-all}
+use Rattle.entries.proofs.Shifts.{over, over-none, over-read, over-more, over-all}
 use Rattle.entries.proofs.stretch.shift_in.Statement.{statement}
 use Rattle.entries.proofs.stretch.shift_in.Tie as tie
 

@@ -4,7 +4,7 @@ use mathlib.Core.Path.{_∙_}
 use Prim.Native.Nat.{_+_, _-_}
 use lib.ListN.{set, length-set}
 use borrow.Rule.Slice.PartMut.{same-len-mid}
-use Rattle.entries.proofs.Turning.{carried}
+use Rattle.entries.proofs.Shifts.{carried}
 use Rattle.entries.proofs.stretch.to_end.Statement.{statement}
 use Rattle.entries.proofs.stretch.to_end.Tie as tie
 

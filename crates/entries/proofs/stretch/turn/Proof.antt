@@ -4,7 +4,7 @@ use Prim.Native.Nat.{ℕ, _≤_, _+_, _-_}
 use native.Mathlib.Omega.{arith}
 use mathlib.Core.List.{List}
 use lib.ListN.{length, getD, set, length-set}
-use Rattle.entries.proofs.Turning.{moved, moved-none, moved-more, moved-last, short}
+use Rattle.entries.proofs.Shifts.{moved, moved-none, moved-more, moved-last, short}
 use Rattle.entries.proofs.stretch.turn.Statement.{statement}
 use Rattle.entries.proofs.stretch.turn.Tie as tie
 

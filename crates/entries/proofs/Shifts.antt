@@ -1,4 +1,4 @@
--- The lists that a stretch of words goes through while it is turned, and what the turned stretch is in its parts.
+-- The words of a stretch while they are moved two places to the front, or a word is put in before them.
 -- For the loops of `turn` and `shift_in`, and for the leaves, which name what stands before and after the stretch.
 use mathlib.Core.Path.{_≡_, refl, sym, ap, _∙_}
 use mathlib.Core.List.{List, [], _∷_, _++_, append-assoc, append-nil}
@@ -6,7 +6,8 @@ use Prim.Native.Nat.{ℕ, suc, _+_, _-_, _<_}
 use native.Mathlib.Numerals.{add-one}
 use native.Mathlib.Omega.{arith}
 use lib.ListN.{length, take, drop, getD, set, length-append, length-drop}
-use lib.Seq.{length-take-le, take-all, take-suc, drop-cons, append-snoc, getD-append-add, getD-drop, set-at, take-at, drop-at, drop-length}
+use lib.Seq.{length-take-le, take-all, take-suc, take-at, drop-cons, drop-at, drop-length, append-snoc}
+use lib.Seq.{getD-append-add, getD-drop, set-at}
 use borrow.Rule.Slice.PartMut.{midOf, postOf, putMid}
 
 -- i words moved two places to the front
@@ -40,7 +41,8 @@ module _ (l : List ℕ) (i : ℕ) (h : i + 2 < length l) where
       ∙ ap (λ (r : List ℕ). r ++ drop (suc i) l) (sym (take-suc (drop 2 l) i 0 (simp length-drop (omega arith))))
       ∙ ap (λ (k : ℕ). moved l k) (sym (add-one i))
 
-two : (r : List ℕ) → length r ≡ 2 → (f : List ℕ) (m a b : ℕ) → length f ≡ m → set (set (f ++ r) m a) (m + 1) b ≡ f ++ (a ∷ b ∷ [])
+two : (r : List ℕ) → length r ≡ 2 → (f : List ℕ) (m a b : ℕ) → length f ≡ m
+    → set (set (f ++ r) m a) (m + 1) b ≡ f ++ (a ∷ b ∷ [])
 two [] e f m a b h = absurd (omega arith)
 two (u ∷ []) e f m a b h = absurd (omega arith)
 two (u ∷ v ∷ w ∷ r) e f m a b h = absurd (omega arith)
@@ -131,11 +133,14 @@ module _ (P M R : List ℕ) (h v a e : ℕ) (p : length P ≡ a) (q : a + length
   pub pushed : (X L : List ℕ) → X ≡ P ++ (M ++ (h ∷ R)) → L ≡ take (length (midOf a (e - a) X)) (v ∷ midOf a (e - a) X)
       → putMid a (e - a) X L ≡ P ++ (v ∷ (M ++ R))
   pushed X L x l =
-      let aft : drop a X ≡ M ++ (h ∷ R) = ap (λ (z : List ℕ). drop a z) x ∙ drop-at P (M ++ (h ∷ R)) a p in
-      let n : length (M ++ (h ∷ [])) ≡ e - a = length-append M (h ∷ []) ∙ omega arith in
-      let m : midOf a (e - a) X ≡ M ++ (h ∷ []) = ap (λ (z : List ℕ). take (e - a) z) (aft ∙ sym (append-snoc M h R)) ∙ take-at (M ++ (h ∷ [])) R (e - a) n in
-      let s : postOf a (e - a) X ≡ R = ap (λ (z : List ℕ). drop (e - a) z) (aft ∙ sym (append-snoc M h R)) ∙ drop-at (M ++ (h ∷ [])) R (e - a) n in
+      let mid = M ++ (h ∷ []) in
+      let longer : length mid ≡ length M + 1 = length-append M (h ∷ []) in
+      let n : length mid ≡ e - a = omega arith in
+      let from-a : drop a X ≡ mid ++ R =
+      ap (λ (z : List ℕ). drop a z) x ∙ drop-at P (M ++ (h ∷ R)) a p ∙ sym (append-snoc M h R) in
+      let m : midOf a (e - a) X ≡ mid = ap (λ (z : List ℕ). take (e - a) z) from-a ∙ take-at mid R (e - a) n in
+      let s : postOf a (e - a) X ≡ R = ap (λ (z : List ℕ). drop (e - a) z) from-a ∙ drop-at mid R (e - a) n in
       let k : L ≡ v ∷ M =
-      l ∙ ap (λ (z : List ℕ). take (length z) (v ∷ z)) m ∙ take-at (v ∷ M) (h ∷ []) (length (M ++ (h ∷ []))) (omega (arith, length-append M (h ∷ []))) in
+      l ∙ ap (λ (z : List ℕ). take (length z) (v ∷ z)) m ∙ take-at (v ∷ M) (h ∷ []) (length mid) (omega arith) in
       let f : take a X ≡ P = ap (λ (z : List ℕ). take a z) x ∙ take-at P (M ++ (h ∷ R)) a p in
       rw (s, f, k)
