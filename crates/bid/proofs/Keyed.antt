@@ -1,38 +1,20 @@
 -- A line under its key, by the cursor's answer: the value's stretch of the sheet, or no such line.
--- Assumes nothing.
-use mathlib.Core.Path.{_≡_, refl, sym, ap, _∙_}
-use mathlib.Core.Bool.{Bool, true, false, false≢true}
-use mathlib.Core.List.{List, [], _∷_}
-use Prim.Native.Nat.{ℕ, zero, suc, _+_, _-_, _≤_}
-use native.Mathlib.Nat.{sub-zero, zero-sub, suc-sub-suc}
+use mathlib.Core.Path.{_≡_, refl, ap, _∙_}
+use mathlib.Core.Bool.{Bool, true, false}
+use mathlib.Core.List.{List}
+use Prim.Native.Nat.{ℕ, _+_, _-_}
 use native.Mathlib.Omega.{arith}
-use lib.ListN.{take, drop, length-drop}
-use lib.Seq.{take-nil, length-take-le, drop-drop}
-use borrow.Author.Tests.{ltb-true, ltb-false}
-use lib.Dec.{ltb}
+use lib.ListN.{take, drop}
+use lib.Seq.{drop-drop}
 use Rattle.terms.specs.Choice.{if_then_else_, ∣_∣}
 use Rattle.terms.specs.Refusals.{noSuchLine}
 use Rattle.text.specs.Text.{starts}
 use Rattle.sheets.specs.Number.{Value}
 use Rattle.sheets.specs.Lines.{lines, Reading, bad, before, under}
-use Rattle.text.proofs.Text.{short-lacks}
+use Rattle.text.proofs.Text.{drop-take, part-length, starts-fits}
 use Rattle.lines.proofs.Cursor.{ClosedAt, MissingAt, ended, not-closed}
 use Rattle.bid.specs.Answers.{KeyedAt}
 use Rattle.bid.specs.declared.keyed_lines.Keyed.the-variants.{Value as ValueAt, NoSuchLine}
-
-drop-take : (m n : ℕ) (l : List ℕ) → drop m (take n l) ≡ take (n - m) (drop m l)
-drop-take zero n l = ap (λ (k : ℕ). take k l) (sym (sub-zero n))
-drop-take (suc m) zero l = ap (λ (k : ℕ). take k (drop (suc m) l)) (sym (zero-sub (suc m)))
-drop-take (suc m) (suc n) [] = sym (take-nil (suc n - suc m))
-drop-take (suc m) (suc n) (b ∷ l) = drop-take m n l ∙ ap (λ (k : ℕ). take k (drop m l)) (sym (suc-sub-suc n m))
-
--- A key in front is no longer than the bytes.
-starts-fits : (key s : List ℕ) → starts key s ≡ true → ∣ key ∣ ≤ ∣ s ∣
-starts-fits key s h = fits (ltb ∣ s ∣ ∣ key ∣) refl
-  where
-    fits : (t : Bool) → ltb ∣ s ∣ ∣ key ∣ ≡ t → ∣ key ∣ ≤ ∣ s ∣
-    fits true test = absurd (false≢true (sym (short-lacks key s (ltb-true ∣ s ∣ ∣ key ∣ test)) ∙ h))
-    fits false test = ltb-false ∣ s ∣ ∣ key ∣ test
 
 module _ (s : List ℕ) (at : ℕ) (key : List ℕ) where
   module _ (stop : ℕ) (closed : ClosedAt s at stop) where
@@ -54,7 +36,7 @@ module _ (s : List ℕ) (at : ℕ) (key : List ℕ) where
     pub its-key : starts key l ≡ true → KeyedAt s at key (ValueAt (at + ∣ key ∣) stop)
     its-key test =
         let fits = starts-fits key l test in
-        let length-l = length-take-le (stop - at) (drop at s) (omega (arith, length-drop at s, closed .inside)) in
+        let long = part-length at stop s (omega (arith, closed .inside)) in
         let width : stop - at - ∣ key ∣ ≡ stop - (at + ∣ key ∣) = omega arith in
         let value : drop ∣ key ∣ l ≡ take (stop - (at + ∣ key ∣)) (drop (at + ∣ key ∣) s)
         = drop-take ∣ key ∣ (stop - at) (drop at s) ∙ rw (drop-drop, width) refl in

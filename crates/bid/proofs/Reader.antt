@@ -1,5 +1,4 @@
 -- The sheet by its lines' answers, in order: the first that is wrong decides; after three good ones the page lines do.
--- Assumes nothing.
 use mathlib.Core.Path.{_≡_, refl, sym, ap, subst, _∙_}
 use mathlib.Core.Bool.{Bool}
 use mathlib.Core.List.{List}

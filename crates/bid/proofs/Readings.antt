@@ -1,5 +1,4 @@
 -- A line's answer by its value: good where the value means a number, else the refusal that it is wrong by.
--- Assumes nothing.
 use mathlib.Core.Path.{_≡_, sym, ap, subst, _∙_}
 use mathlib.Core.List.{List}
 use Prim.Native.Nat.{ℕ, _+_, _-_}

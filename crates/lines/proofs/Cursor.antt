@@ -1,17 +1,16 @@
 -- What the cursor's answer says of the lines from its place on: a closed line and its end, or none that is closed.
--- Assumes nothing.
 use mathlib.Core.Path.{_≡_, refl, sym, ap, subst, _∙_}
 use mathlib.Core.Bool.{Bool, true, false}
-use mathlib.Core.List.{List, [], _∷_}
-use Prim.Native.Nat.{ℕ, zero, suc, _+_, _-_, _≤_, _<_}
-use native.Mathlib.Nat.{sub-zero, suc-sub-suc}
+use mathlib.Core.List.{List}
+use Prim.Native.Nat.{ℕ, _+_, _-_, _≤_, _<_}
 use native.Mathlib.Omega.{arith}
 use lib.ListN.{take, drop, length-drop, drop-of-length-le}
-use lib.Seq.{take-all, take-nil, drop-drop}
+use lib.Seq.{take-all, drop-drop}
 use lib.Dec.{ltb}
 use borrow.Author.Tests.{lt-ltb, le-ltb, ltb-true, ltb-false}
 use Rattle.terms.specs.Choice.{if_then_else_, ∣_∣}
 use Rattle.bytes.specs.Bytes.{slice, indexOf}
+use Rattle.text.proofs.Text.{drop-take}
 use Rattle.sheets.specs.Lines.{end, unclosed, line, lineFeed, lines}
 use Rattle.sheets.proofs.Places.{place-at-most}
 use Rattle.sheets.proofs.Lines.{lines-closed, lines-unclosed}
@@ -33,12 +32,7 @@ pub data MissingAt (s : List ℕ) (at : ℕ) : Type 0 where
 -- The bytes that the kit's `find` looks through: the part from `at` to `stop`, and all from `at` on.
 pub part-is : (at stop : ℕ) (s : List ℕ) → slice at stop s ≡ take (stop - at) (drop at s)
 unfolding slice
-part-is zero stop s = ap (λ (n : ℕ). take n s) (sym (sub-zero stop))
-part-is (suc at) zero s =
-    let none : 0 - suc at ≡ 0 = omega arith in ap (λ (n : ℕ). take n (drop (suc at) s)) (sym none)
-part-is (suc at) (suc stop) [] = sym (take-nil (suc stop - suc at))
-part-is (suc at) (suc stop) (b ∷ s) =
-    part-is at stop s ∙ ap (λ (n : ℕ). take n (drop at s)) (sym (suc-sub-suc stop at))
+part-is at stop s = drop-take at stop s
 
 pub bytes-from : (s : List ℕ) (at : ℕ) → slice at ∣ s ∣ s ≡ drop at s
 bytes-from s at = part-is at ∣ s ∣ s ∙ take-all (∣ s ∣ - at) (drop at s) (omega (arith, length-drop at s))

@@ -1,16 +1,15 @@
 -- Where the value of a line stands: in the line at a place, in a line further on, or nowhere.
--- Assumes nothing.
 use mathlib.Core.Path.{_≡_, refl, sym, ap, subst, _∙_}
 use mathlib.Core.Bool.{Bool}
 use mathlib.Core.List.{List}
 use Prim.Native.Nat.{ℕ, zero, suc, _+_, _-_, _≤_, _<_}
 use native.Mathlib.Omega.{arith}
-use lib.ListN.{take, drop, length-drop}
-use lib.Seq.{length-take-le}
+use lib.ListN.{take, drop}
 use borrow.Author.Tests.{lt-ltb, le-ltb}
 use Rattle.terms.specs.Choice.{if_then_else_, ∣_∣}
 use Rattle.terms.specs.Refusals.{accepted, sheetTooLong, noSuchLine}
 use Rattle.bytes.specs.Bytes.{indexOf}
+use Rattle.text.proofs.Text.{part-length}
 use Rattle.sheets.specs.Lines.{lines}
 use Rattle.sheets.specs.LookUp.{Place, between, nowhere, equalsSign, valueIn, valueOf}
 use Rattle.sheets.specs.Refusals.{Found, foundAt, onLookUp}
@@ -25,22 +24,21 @@ module _ (s : List ℕ) (at stop : ℕ) (from : at ≤ stop) (inside : stop ≤ 
   abbrev bytesOf : List ℕ
   bytesOf = take (stop - at) (drop at s)
 
-  pub line-length : ∣ bytesOf ∣ ≡ stop - at
-  line-length = length-take-le (stop - at) (drop at s) (omega (arith, length-drop at s))
-
   abbrev placed : Bool → Place
   placed t = if t then between (at + indexOf equalsSign bytesOf + 1) (at + ∣ bytesOf ∣) else nowhere
 
   module _ (n : ℕ) (first : n ≡ at + indexOf equalsSign bytesOf) where
     pub value-here : n < stop → valueIn at bytesOf ≡ between (n + 1) stop
     value-here h =
-        let width : at + ∣ bytesOf ∣ ≡ stop = omega (arith, line-length) in
-        let before : indexOf equalsSign bytesOf < ∣ bytesOf ∣ = omega (arith, line-length) in
+        let long = part-length at stop s inside in
+        let width : at + ∣ bytesOf ∣ ≡ stop = omega arith in
+        let before : indexOf equalsSign bytesOf < ∣ bytesOf ∣ = omega arith in
         ap placed (lt-ltb _ _ before) ∙ rw (← first, width) refl
 
     pub no-value : stop ≤ n → valueIn at bytesOf ≡ nowhere
     no-value h =
-        let past : ∣ bytesOf ∣ ≤ indexOf equalsSign bytesOf = omega (arith, line-length) in ap placed (le-ltb _ _ past)
+        let past : ∣ bytesOf ∣ ≤ indexOf equalsSign bytesOf = omega (arith, part-length at stop s inside) in
+        ap placed (le-ltb _ _ past)
 
 -- THE LINES FROM A PLACE ON
 
@@ -55,7 +53,7 @@ module _ (s : List ℕ) (at : ℕ) where
     pub in-a-later-line : (n : ℕ) → valueFrom s at (suc (suc n)) ≡ valueFrom s (stop + 1) (suc n)
     in-a-later-line n =
         let l = take (stop - at) (drop at s) in
-        let part = line-length s at stop (closed .from) (omega (arith, closed .inside)) in
+        let part = part-length at stop s (omega (arith, closed .inside)) in
         let width : at + ∣ l ∣ ≡ stop = omega (arith, closed .from) in
         ap (valueOf at (suc (suc n))) (closed .reads)
         ∙ ap (λ (m : ℕ). valueOf (m + 1) (suc n) (lines (drop (stop + 1) s))) width

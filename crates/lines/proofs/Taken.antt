@@ -1,9 +1,5 @@
--- A function that asks `look_up` for a line of its sheet, and hands back one field of the answer: one walk of its MIR, by
--- hand, for every field. All that it knows of `look_up` is that it meets its contract.
---     Row k κ, valued k κ d     the type of the answer's field k, and its value in the answer d
---     taking k τ                the MIR of such a function, which hands back the field k: τ is the result's type
---     takes                     it meets any contract whose `ensures` holds of the field of whatever `look_up` may answer
--- Assumes nothing.
+-- A function that asks `look_up` for a line of its sheet, and hands back one field of the answer: one walk by hand
+-- (`Walk`), for every field. All that is known of `look_up` is that it meets its contract.
 use mathlib.Core.Path.{_≡_, refl, sym, ap, subst}
 use mathlib.Core.List.{List, [], _∷_}
 use mathlib.Core.Option.{some}
@@ -14,26 +10,25 @@ use mir.Syntax.{Ty, tyInt, tyRef, imm, named, erased, w8, w32, Fn, local, valueL
 use mir.Syntax.{field, copy, rvOpd}
 use mir.Val.{Val, vint}
 use mir.Fields.{getV}
-use base.Logic.{SProp, ent, emp, snd∗, exE, id⊢}
+use base.Logic.{SProp, ent, emp, id⊢}
 use base.Fml.{Lft, Share, fat}
 use prog.Memory.{Memory, fieldOf}
 use prog.Model.{Model}
-use prog.Routine.{Routine, Env}
-use prog.Wp.{Heap, WpFn, Tables}
-use ghost.Atoms.{Atoms, sem}
-use contract.Monad.{Fun, fact}
+use prog.Routine.{Name, Routine, Env}
+use prog.Wp.{Heap, WpFn, Tables, Closed}
+use ghost.Atoms.{Atoms}
+use contract.Monad.{Fun}
 use contract.Running.{Running, GhostRules, givenOf, tables, tablesOf}
-use types.Kit.{Given, ‵, raw, _⊛_, given, ⋆, _$_, _∵_, !, qed, by, move, drop, use1, use2, split, learn, fsplit, rewrite}
+use types.Kit.{Given, ‵, raw, _⊛_, given, ⋆, _$_, _∵_, !, qed, by, move, drop, use1, use2, split, learn, rewrite}
 use types.Part.{whole, sub, look-in}
-use types.Run.{look, init, forget, stop, fld, from, load, of-opd, and-then, no-more, land, assigns, returns, enter}
-use types.Run.{alloc1, alloc0, params1, pass1, pass0, free1, free0}
+use types.Run.{look, init, stop, fld, from, load, of-opd, and-then, no-more, land, assigns, returns, enter}
+use types.Run.{alloc1, alloc0, params1, pass1, pass0, free0}
 use sound.WpLaws.{fmOf}
 use denote.RattleType.{RattleType}
 use denote.Laws.{Is, Typed, shows}
-use denote.Builtin.{u8}
 use denote.Ref.{RefT, NamedLft}
 use denote.Signature.{Slot, plain, namedLft}
-use denote.Slice.{sliceTy, shr-slice-lawful}
+use denote.Slice.{sliceTy}
 use denote.Steps.{only, peeks}
 use denote.Struct.At.{FieldAt, lawAt, getAt, spelled, val-get}
 use denote.Struct.Declared.{Declared}
@@ -42,13 +37,13 @@ use denote.Struct.Rest.{all-own, ownAt, rest, own-open, own-out}
 use denote.Struct.Values.{Values}
 use denote.Triple.Statement.{Contract, Triple}
 use denote.Triple.Call.{calls-at}
-use denote.Triple.Spec.{Meets, tripleOf}
+use denote.Triple.Spec.{tripleOf}
 use denote.Triple.Table.{cited}
-use denote.Triple.Clauses.{Clauses, ensured, lasts, closing}
+use denote.Triple.Clauses.{Clauses, closing}
 use Rattle.lines.specs.Stretch.{LookedUp}
 use Rattle.lines.specs.declared.Found.{Found}
-use Rattle.lines.proofs.Walk.{Bytes, val, OwnsBytes, Alive, Answer, answers}
-use Rattle.lines.proofs.Walk.{ended, passed, AtEntry, Ensured, WalkPost, hands, leaves, by-walk}
+use Rattle.lines.proofs.Walk.{answers, free-at, val, OwnsBytes, SliceTyped, TokenAndSlice}
+use Rattle.lines.proofs.Walk.{ended, passed, Ensured, WalkPost, hands, leaves, by-walk}
 use Rattle.lines.proofs.Found as T
 use Rattle.lines.proofs.Found.Laws as T′
 use Rattle.lines.proofs.look_up as look-up
@@ -56,7 +51,7 @@ use Rattle.lines.proofs.look_up.Symbol as look-up-def
 use Rattle.lines.proofs.look_up.Symbol.{name as #lines·look-up}
 use Rattle.lines.proofs.look_up.Met as look-up-thm
 
--- the answer's declaration and laws at a lifetime, and its fields' values
+-- The answer's declaration and laws at a lifetime, and its fields' values.
 abbrev α : Lft → NamedLft
 α κ = namedLft 1 0 tt (κ, tt)
 
@@ -69,7 +64,7 @@ L κ = T′.the-laws (α κ)
 abbrev fields : (κ : Lft) → Found → Values (D κ .parts)
 fields κ d = (d .number, (d .part, tt))
 
--- the field k: its type, as the function's result has it too, its value, and its machine value in the answer's
+-- The field k: its type, as the function's result has it too, its value, and its machine value in the answer's.
 abbrev Row : ℕ → Lft → RattleType
 Row k κ = FieldAt (D κ .parts) k .row
 
@@ -82,6 +77,7 @@ valued k κ d = FieldAt (D κ .parts) k .into (getAt (D κ .parts) k (fields κ 
 abbrev word : ℕ → Lft → Found → Val
 word k κ d = getV (spelled (D κ .parts) (L κ) (fields κ d)) k
 
+-- The MIR of a function that hands back the field k: τ is the result's type.
 abbrev taking : ℕ → Ty → Fn
 taking k τ = record {
   lifetimes = 1;
@@ -104,14 +100,6 @@ module _ {M : Type 1} (𝓤 : URA M) (H : Heap 𝓤) (A : Atoms 𝓤) (mem : Mem
     abbrev to : LooksUp .Ghost
     to = (((κ, tt), (q, tt), tt, (s, (n, tt)), passed w32 κ s n), tt)
 
-    -- of what `look_up` ensures, the clause alone: it has no `&mut`, so what is said of last values is dropped
-    abbrev said : Found → SProp 𝓤
-    said d = ensured 𝓤 H A look-up.ended (look-up.clauses 𝓤 H A mem run) (κ, tt) (s, (n, tt)) tt d
-
-    tells : (d : Found) → ent 𝓤 (said d) (fact 𝓤 (LookedUp s n d))
-    tells d =
-        exE 𝓤 _ (λ ws. snd∗ 𝓤 (sem 𝓤 H A (lasts look-up.ended (κ, tt) (s, (n, tt)) ws)) (fact 𝓤 (LookedUp s n d)))
-
     module _
         (W : Given 𝓤 H A)
         (k : ℕ)
@@ -123,32 +111,28 @@ module _ {M : Type 1} (𝓤 : URA M) (H : Heap 𝓤) (A : Atoms 𝓤) (mem : Mem
         (known : Triple 𝓤 (𝓣 .C #lines·look-up) LooksUp)
       where
         -- what is had of an answer d at the end gives Q of the field
-        walk : n < 2 ^ 32 → Is (Bytes κ) s (val s ∷ []) → (Q : Val → SProp 𝓤)
+        walk : n < 2 ^ 32 → SliceTyped s → (Q : Val → SProp 𝓤)
             → ((d : Found) → LookedUp s n d
-            → ent 𝓤 (⋆ 𝓤 H A (‵ (Row k κ .own (valued k κ d) (word k κ d ∷ [])) ∷ Alive κ q ∷ ‵ (OwnsBytes κ s) ∷ []))
+            → ent 𝓤 (⋆ 𝓤 H A (‵ (Row k κ .own (valued k κ d) (word k κ d ∷ [])) ∷ TokenAndSlice κ q s))
             (Q (word k κ d)))
-            → ent 𝓤 (⋆ 𝓤 H A (AtEntry w32 κ q s n))
+            → ent 𝓤 (⋆ 𝓤 H A (TokenAndSlice κ q s))
             (WpFn 𝓤 H (𝓣 .C) (𝓣 .Λ) (taking k τ) (val s ∷ vint w32 n ∷ []) Q)
-        walk n-fits is-slice Q exits =
-            let typed = shr-slice-lawful 𝓤 H A W (named 0) κ u8 .typed s (val s ∷ []) is-slice .0 in
+        walk n-fits typed Q exits =
             -- the lifetime as the local's type has it
             let α₃ : NamedLft = record { mir = erased; lft = κ } in
-            let Answers = T.the-row (α κ) in
-            qed W (AtEntry w32 κ q s n) ∵
+            qed W (TokenAndSlice κ q s) ∵
             enter ! (𝓣 .C) (𝓣 .Λ) (taking k τ) (val s ∷ vint w32 n ∷ []) _ $
             alloc1 ! (λ l₀. alloc1 ! (λ l₁. alloc1 ! (λ l₂. alloc1 ! (λ l₃. alloc0 ! $ params1 ! $
-            pass1 ! (init ! 4 refl typed) $ pass1 ! (init ! 2 refl (tt, record { fits = n-fits })) $ pass0 ! $
-            -- [room for _3; …; _2; …; _1; …; room for _0; …; the token; what the parameters own]
-            move ! (9 ∷ []) $ fsplit ! $ move ! (1 ∷ []) $ drop ! $ move ! (9 ∷ 0 ∷ []) $
+            pass1 ! (init ! 4 refl (typed .0)) $ pass1 ! (init ! 2 refl (tt, record { fits = n-fits })) $ pass0 ! $
+            -- [room for _3; …; _2; …; _1; …; room for _0; …; the token; what the slice owns]
+            move ! (8 ∷ 9 ∷ []) $
             use2 W (raw (LooksUp .pre to) ⊛ ‵ (OwnsBytes κ s)) (hands 𝓤 H A W w32 κ q s n n-fits) $ split ! $
             -- _3 = look_up(_1, _2)
             calls-at ! (fmOf 𝓤 H (W .laws) 𝓣) LooksUp known to
             (and-then ! (load ! (from ! (stop !)) (look ! 6 refl))
             (and-then ! (load ! (from ! (stop !)) (look ! 4 refl)) (no-more !))) (λ u.
-            use1 W (Answer κ q Answers u said) (id⊢ 𝓤 _) $
-            answers ! tt κ q Answers u said (LookedUp s n) tells (λ d e.
+            answers W look-up.ended (look-up.clauses 𝓤 H A mem run) to (LookedUp s n) (λ d e. id⊢ 𝓤 _) u tt (λ d e is.
             -- [the answer; the token; what the slice owns; room for _3; …; _2; …; _1; …; room for _0; …]
-            peeks ! Answers (Is Answers) (shows 𝓤 H A Answers) d (u ∷ []) (λ is.
             land ! (from ! (stop !))
             (init ! 3 refl (LL.lawful (T.the-type α₃) (T′.the-laws α₃) 𝓤 H A W .typed d _ is .0)) $
             -- the answer is opened, and what the field owns is taken out of it
@@ -166,28 +150,29 @@ module _ {M : Type 1} (𝓤 : URA M) (H : Heap 𝓤) (A : Atoms 𝓤) (mem : Mem
             assigns ! (of-opd ! (load ! (from ! (fld ! there (stop !))) (look-in ! 3 (sub ! k there (whole !)))))
             (from ! (stop !))
             (init ! 9 refl (subst (λ (τs : List Ty). Typed τs (word k κ d ∷ [])) one field-typed .0)) $
-            returns ! (look ! 9 refl) $ forget ! 3 refl $ forget ! 5 refl $ forget ! 7 refl $ forget ! 9 refl $
-            move ! (9 ∷ 10 ∷ []) $ free1 ! $ move ! (7 ∷ 8 ∷ []) $ free1 ! $ move ! (5 ∷ 6 ∷ []) $ free1 ! $
-            move ! (3 ∷ 4 ∷ []) $ free1 ! $ free0 ! $ by ! (exits d e))))))))))
+            returns ! (look ! 9 refl) $ free-at W 9 refl refl $ free-at W 7 refl refl $ free-at W 5 refl refl $
+            free-at W 3 refl refl $ free0 ! $ by ! (exits d e)))))))))
 
 module _ {M : Type 1} (𝓤 : URA M) (H : Heap 𝓤) (𝓜 : Model 𝓤 H) (𝓖 : GhostRules 𝓤 H) (𝓡 : Running 𝓤 H 𝓜) where
-  -- γ is what the function's calls mean, and c its contract
+  -- Such a function, under the name f and with calls that mean γ, meets any contract c whose `ensures` holds of the
+  -- field of whatever `look_up` may answer.
   pub takes : (k : ℕ) {τ τ₃ : Ty} {o : ℕ} → fieldOf (T′.mir erased) k ≡ some (τ₃, o)
       → ((κ : Lft) → Row k κ .mir ≡ τ ∷ [])
       → (γ : Env) → γ #lines·look-up ≡ look-up-def.routine
+      → (f : Name) → Closed 𝓤 H (tables 𝓤 H 𝓜 𝓡 γ .C) (tables 𝓤 H 𝓜 𝓡 γ .Λ) f (taking k τ)
       → (c : Clauses 𝓤 (ended w32 (result k)))
       → ((κ : Lft) (s : RefT (List ℕ)) (n : ℕ) (g : c (κ, tt) (s, (n, tt)) .ghost) (d : Found) → LookedUp s n d
       → ent 𝓤 (emp 𝓤) (Ensured 𝓤 w32 (result k) c κ s n g (valued k κ d)))
-      → Meets 𝓤 H (𝓖 .A) (ended w32 (result k) .signature)
-      (WpFn 𝓤 H (tables 𝓤 H 𝓜 𝓡 γ .C) (tables 𝓤 H 𝓜 𝓡 γ .Λ) (taking k τ))
-      (closing 𝓤 H (𝓖 .A) (ended w32 (result k)) c)
+      → Triple 𝓤 (tables 𝓤 H 𝓜 𝓡 γ .C f)
+      (tripleOf 𝓤 H (𝓖 .A) (ended w32 (result k) .signature) (closing 𝓤 H (𝓖 .A) (ended w32 (result k)) c))
   unfolding tablesOf
-  takes k {τ} there one γ calls c shown =
+  takes k {τ} there one γ calls f closed c shown =
       let A = 𝓖 .A in
       let W = givenOf 𝓤 H 𝓜 𝓖 in
-      let 𝓣 = tablesOf 𝓤 H 𝓜 (tables 𝓤 H 𝓜 𝓡 γ) in
-      by-walk 𝓤 H A W w32 (result k) c 𝓣 (taking k τ) (λ κ q s n g fits is-slice.
-      walk 𝓤 H A (𝓜 .mem) (𝓡 .run) κ q s n W k there (one κ) 𝓣
-      (cited 𝓤 H (LooksUp 𝓤 H A (𝓜 .mem) (𝓡 .run)) 𝓜 𝓡 γ #lines·look-up look-up-def.routine calls
-      (look-up-thm.met 𝓤 H 𝓜 𝓖 𝓡)) fits is-slice (WalkPost 𝓤 H A w32 (result k) c κ q s n g) (λ d e.
+      let look-up-meets =
+      cited 𝓤 H (LooksUp 𝓤 H A (𝓜 .mem) (𝓡 .run)) 𝓜 𝓡 γ #lines·look-up look-up-def.routine calls
+      (look-up-thm.met 𝓤 H 𝓜 𝓖 𝓡) in
+      by-walk 𝓤 H 𝓜 𝓖 𝓡 γ w32 (result k) c f (taking k τ) closed (λ κ q s n g fits typed.
+      walk 𝓤 H A (𝓜 .mem) (𝓡 .run) κ q s n W k there (one κ) (tablesOf 𝓤 H 𝓜 (tables 𝓤 H 𝓜 𝓡 γ)) look-up-meets
+      fits typed (WalkPost 𝓤 H A w32 (result k) c κ q s n g) (λ d e.
       leaves 𝓤 H A W w32 (result k) c κ q s n g fits (valued k κ d) (word k κ d) (shown κ s n g d e)))

@@ -1,5 +1,4 @@
 -- Two outcomes that a promise allows are equal: the answer and every lent byte afterwards.
--- Assumes nothing.
 use mathlib.Core.Path.{_≡_, sym, _∙_}
 use mathlib.Core.List.{List}
 use Prim.Native.Nat.{ℕ}

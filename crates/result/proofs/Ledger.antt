@@ -1,5 +1,4 @@
 -- How long a ledger's line is: by its parts, and at most 256 bytes.
--- Assumes nothing.
 use mathlib.Core.Path.{_≡_, refl}
 use Prim.Native.Nat.{ℕ, _+_, _^_, _≤_, _<_}
 use native.Mathlib.Omega.{arith}

@@ -1,5 +1,4 @@
 -- The sheet by its parts, and the length of the tally's lines.
--- Assumes nothing.
 use mathlib.Core.Path.{_≡_, sym, ap, _∙_}
 use mathlib.Core.List.{_++_, append-assoc}
 use Prim.Native.Nat.{_+_}

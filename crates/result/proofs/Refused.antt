@@ -1,5 +1,4 @@
 -- The promises of the writers, refusal by refusal in the order of document 01, and for an accepted call.
--- Assumes nothing.
 use mathlib.Core.Path.{_≡_, _∙_}
 use mathlib.Core.Bool.{true, false}
 use mathlib.Core.List.{List}

@@ -1,5 +1,4 @@
 -- A run from a fresh directory is accepted, whatever its trace, where all that is lent has room.
--- Assumes nothing.
 use mathlib.Core.Path.{_≡_, refl, sym, ap, _∙_}
 use mathlib.Core.Bool.{true}
 use mathlib.Core.List.{List}

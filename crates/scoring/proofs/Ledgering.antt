@@ -1,5 +1,4 @@
 -- The ledger of a sheet: what is printed of it, and behind that the lines of its requests.
--- Assumes nothing.
 use mathlib.Core.Path.{_≡_, sym, ap, _∙_}
 use mathlib.Core.List.{List, _++_}
 use Prim.Native.Nat.{ℕ, _+_, _*_}

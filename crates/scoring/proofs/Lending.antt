@@ -1,5 +1,4 @@
 -- Whether the lent memory is enough decides: refusal 6, or what the sheet comes to.
--- Assumes nothing.
 use mathlib.Core.Path.{_≡_, refl, sym, _∙_}
 use mathlib.Core.Bool.{Bool, true, false, not, _&&_}
 use mathlib.Core.List.{List}

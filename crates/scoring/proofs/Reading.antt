@@ -1,5 +1,4 @@
 -- What the reader's answer says of the sheet: a refusal by its number, or the bid that the answer and the buffer hold.
--- Assumes nothing.
 use mathlib.Core.Path.{_≡_, refl, sym, ap, subst, _∙_}
 use mathlib.Core.List.{List}
 use Prim.Native.Nat.{ℕ, _≤_}
@@ -9,7 +8,7 @@ use lib.Seq.{take-at}
 use Rattle.terms.specs.Choice.{∣_∣}
 use Rattle.sheets.specs.Bid.{Meaning, bid, refused, meaning}
 use Rattle.sheets.specs.Refusals.{answer, over}
-use Rattle.sheets.proofs.Refused.{refusal-has-number}
+use Rattle.sheets.proofs.Bids.{refusal-has-number}
 use Rattle.bid.specs.declared.Bid.{Bid}
 use Rattle.bid.specs.Promises.{ReadAs, BidRead}
 use Rattle.bid.proofs.Reader.{read-by-meaning}

@@ -1,5 +1,4 @@
 -- A bid scored, and a sheet scored, by the promises of the reader, the run and the writers.
--- Assumes nothing.
 use mathlib.Core.Path.{_≡_, refl, sym, ap, subst, _∙_}
 use mathlib.Core.List.{List, _++_}
 use Prim.Native.Nat.{ℕ, _+_, _*_, _≤_}

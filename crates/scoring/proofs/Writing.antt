@@ -1,5 +1,4 @@
 -- What the writers leave of lent bytes that have room: the text over them; and what a part's text is to the whole.
--- Assumes nothing.
 use mathlib.Core.Path.{_≡_, refl, sym, ap, _∙_}
 use mathlib.Core.Bool.{true}
 use mathlib.Core.List.{List, [], _++_, append-assoc, append-nil}

@@ -1,5 +1,5 @@
--- What an accepted bid holds: its policy is known, and c, cost, count of pages and every page are in their ranges.
--- Each part is a fact about the line that gives it: what is read there, if anything is, is in range.
+-- What a sheet means: a bid with its policy, c, cost, count of pages and every page in their ranges, or a refusal with
+-- a number. Each part is a fact about the line that gives it: what is read there is in range, or a refusal's number.
 use mathlib.Core.Path.{_≡_, refl, subst}
 use mathlib.Core.Bool.{true}
 use mathlib.Core.List.{List, []}
@@ -19,42 +19,56 @@ use Rattle.sheets.specs.Lines.{Lines, end, unclosed, line, lines, Readin
 use Rattle.sheets.specs.Bid.{Bid, Meaning, bid, refused, PolicyValue, policyValue, policyMeant, inRange}
 use Rattle.sheets.specs.Bid.{policyLine, sizeLine, costLine, pageLine, Pages, listed, refusedAt, onto, pagesFrom}
 use Rattle.sheets.specs.Bid.{withPages, afterLine, inOrder, meaning}
-use Rattle.sheets.specs.Demands.{InRange, BidsInRange}
+use Rattle.sheets.specs.Demands.{InRange, BidsInRange, RefusalsHaveNumbers}
 use Rattle.sheets.proofs.Digits.{is-cost, cost-below}
 
--- WHAT IS READ, IF ANYTHING IS, HAS A PROPERTY
+-- WHAT IS READ HAS A PROPERTY, AND A REFUSAL A NUMBER
+
+abbrev Refusal : ℕ → Type 0
+Refusal number = 1 ≤ number
 
 abbrev OfValue : (ℕ → Type 0) → Value → Type 0
 OfValue Q (means n) = Q n
-OfValue Q (wrong number) = Unit {0}
+OfValue Q (wrong number) = Refusal number
 
 abbrev OfReading : (ℕ → Type 0) → Reading → Type 0
 OfReading Q (good n rest) = Q n
-OfReading Q (bad number) = Unit {0}
+OfReading Q (bad number) = Refusal number
 
 abbrev OfPages : (List ℕ → Type 0) → Pages → Type 0
 OfPages Q (listed pages) = Q pages
-OfPages Q (refusedAt number at) = Unit {0}
+OfPages Q (refusedAt number at) = Refusal number
 
 abbrev OfMeaning : (Bid → Type 0) → Meaning → Type 0
 OfMeaning Q (bid b) = Q b
-OfMeaning Q (refused number at) = Unit {0}
+OfMeaning Q (refused number at) = Refusal number
 
 of-before : (Q : ℕ → Type 0) (v : Value) (rest : Lines) → OfValue Q v → OfReading Q (before v rest)
 of-before Q (means n) rest h = h
-of-before Q (wrong number) rest h = tt
+of-before Q (wrong number) rest h = h
 
 of-under : (Q : ℕ → Type 0) (key : List ℕ) (meant : List ℕ → Value) → ((s : List ℕ) → OfValue Q (meant s))
     → (ls : Lines) → OfReading Q (under key meant ls)
-of-under Q key meant h end = tt
-of-under Q key meant h unclosed = tt
+of-under Q key meant h end = omega arith
+of-under Q key meant h unclosed = omega arith
 of-under Q key meant h (line l rest) =
-    let s = drop ∣ key ∣ l in either (OfReading Q) (starts key l) (of-before Q (meant s) rest (h s)) tt
+    let s = drop ∣ key ∣ l in
+    either (OfReading Q) (starts key l) (of-before Q (meant s) rest (h s)) (omega arith)
 
 of-after : (P : Bid → Type 0) (Q : ℕ → Type 0) (n : ℕ) (r : Reading) (follows : ℕ → Lines → Meaning) → OfReading Q r
     → ((value : ℕ) (rest : Lines) → Q value → OfMeaning P (follows value rest)) → OfMeaning P (afterLine n r follows)
 of-after P Q n (good value rest) follows h then = then value rest h
-of-after P Q n (bad number) follows h then = tt
+of-after P Q n (bad number) follows h then = h
+
+-- WHOLE NUMBERS
+
+abbrev ThirtyTwoBits : ℕ → Type 0
+ThirtyTwoBits n = n ≤ 4294967295
+
+whole-at-most : (s : List ℕ) → OfValue ThirtyTwoBits (whole s)
+unfolding whole
+whole-at-most s =
+    by-test (OfValue ThirtyTwoBits) (wholeForm s) (λ h. let said = simp reads at h in omega arith) (λ h. omega arith)
 
 -- THE FIRST THREE LINES
 
@@ -67,7 +81,7 @@ Names v = OfValue Known (policyMeant v)
 policy-named : (s : List ℕ) → Names (policyValue s)
 policy-named s =
     either Names (same s (bytes "")) refl
-    (either Names (same s (bytes "car")) refl (either Names (same s (bytes "cart")) refl tt))
+    (either Names (same s (bytes "car")) refl (either Names (same s (bytes "cart")) refl (omega arith)))
 
 policy-known : (ls : Lines) → OfReading Known (policyLine ls)
 unfolding policyLine
@@ -78,11 +92,11 @@ Size c = (1 ≤ c) × (c ≤ 1024)
 
 size-known : (ls : Lines) → OfReading Size (sizeLine ls)
 unfolding sizeLine
-size-known ls = of-under Size (bytes "pages=") (λ s. inRange (whole s)) (λ s. go (whole s)) ls
+size-known ls = of-under Size (bytes "pages=") (λ s. inRange (whole s)) (λ s. go (whole s) (whole-at-most s)) ls
   where
-    go : (v : Value) → OfValue Size (inRange v)
-    go (means c) = by-test (OfValue Size) (knownSize c) (λ h. simp reads at h) (λ h. tt)
-    go (wrong number) = tt
+    go : (v : Value) → OfValue ThirtyTwoBits v → OfValue Size (inRange v)
+    go (means c) h = by-test (OfValue Size) (knownSize c) (λ is. simp reads at is) (λ not. omega arith)
+    go (wrong number) h = h
 
 abbrev Cost : ℕ → Type 0
 Cost cost = cost ≤ 9999999
@@ -92,29 +106,24 @@ unfolding costLine missCost
 cost-at-most ls = of-under Cost (bytes "misscost=") missCost small ls
   where
     small : (s : List ℕ) → OfValue Cost (missCost s)
-    small s = by-test (OfValue Cost) (costForm s) (λ h. omega (arith, cost-below s (is-cost s h))) (λ h. tt)
+    small s =
+        by-test (OfValue Cost) (costForm s) (λ h. omega (arith, cost-below s (is-cost s h))) (λ h. omega arith)
 
 -- THE PAGE LINES
 
-abbrev Page : ℕ → Type 0
-Page page = page ≤ 4294967295
-
-page-at-most : (s : List ℕ) → OfValue Page (whole s)
-unfolding whole
-page-at-most s = by-test (OfValue Page) (wholeForm s) (λ h. let said = simp reads at h in omega arith) (λ h. tt)
-
 -- What n page lines before it allow of a page.
 abbrev Allowed : ℕ → ℕ → Type 0
-Allowed n page = (n < 1000) × Page page
+Allowed n page = (n < 1000) × ThirtyTwoBits page
 
 page-allowed : (n : ℕ) (ls : Lines) → OfReading (Allowed n) (pageLine n ls)
 unfolding pageLine
 page-allowed n ls = of-under (Allowed n) (bytes "page=") _ (λ s.
-    by-test (OfValue (Allowed n)) (ltb n 1000) (λ h. both (ltb-true n 1000 h) (whole s) (page-at-most s)) (λ h. tt)) ls
+    by-test (OfValue (Allowed n)) (ltb n 1000) (λ h. both (ltb-true n 1000 h) (whole s) (whole-at-most s))
+    (λ h. omega arith)) ls
   where
-    both : n < 1000 → (v : Value) → OfValue Page v → OfValue (Allowed n) v
+    both : n < 1000 → (v : Value) → OfValue ThirtyTwoBits v → OfValue (Allowed n) v
     both h (means page) small = (h, small)
-    both h (wrong number) small = tt
+    both h (wrong number) small = small
 
 abbrev PagesFit : ℕ → List ℕ → Type 0
 PagesFit n pages = (n + ∣ pages ∣ ≤ 1000) × (allAtMost 4294967295 pages ≡ true)
@@ -123,9 +132,8 @@ of-onto : (n : ℕ) (r : Reading) (after : Pages) → OfReading (Allowed n) r
     → (n < 1000 → OfPages (PagesFit (suc n)) after) → OfPages (PagesFit n) (onto n r after)
 of-onto n (good page rest) (listed pages) h room =
     let i = room (h .0) in (omega arith, simp reads (h .1, i .1))
-of-onto n (good page rest) (refusedAt number at) h room = tt
-of-onto n (bad number) (listed pages) h room = tt
-of-onto n (bad number) (refusedAt later at) h room = tt
+of-onto n (good page rest) (refusedAt number at) h room = room (h .0)
+of-onto n (bad number) after h room = h
 
 pages-at-most : (n : ℕ) (ls : Lines) → n ≤ 1000 → OfPages (PagesFit n) (pagesFrom n ls)
 pages-at-most n end h = (omega arith, refl)
@@ -146,7 +154,7 @@ module _ (policy c cost : ℕ) (p : Known policy) (q : Size c) (r : Cost cost) w
     pages-at-most = omega arith;
     each-page-at-most = h .1;
   }
-  of-pages (refusedAt number at) h = tt
+  of-pages (refusedAt number at) h = h
 
 lines-in-range : (ls : Lines) → OfMeaning InRange (inOrder ls)
 unfolding inOrder
@@ -156,9 +164,12 @@ lines-in-range ls =
     of-after InRange Cost 3 (costLine ls₃) _ (cost-at-most ls₃) (λ cost ls₄ r.
     of-pages policy c cost p q r (pagesFrom 0 ls₄) (pages-at-most 0 ls₄ (omega arith)))))
 
-in-range : (s : List ℕ) → OfMeaning InRange (meaning s)
+of-sheet : (s : List ℕ) → OfMeaning InRange (meaning s)
 unfolding meaning
-in-range s = either (OfMeaning InRange) (ltb 16000 ∣ s ∣) tt (lines-in-range (lines s))
+of-sheet s = either (OfMeaning InRange) (ltb 16000 ∣ s ∣) (omega arith) (lines-in-range (lines s))
 
 pub bids-in-range : BidsInRange
-bids-in-range s b is = subst (OfMeaning InRange) is (in-range s)
+bids-in-range s b is = subst (OfMeaning InRange) is (of-sheet s)
+
+pub refusal-has-number : RefusalsHaveNumbers
+refusal-has-number s number at is = subst (OfMeaning InRange) is (of-sheet s)

@@ -1,5 +1,4 @@
 -- Digits, read on from a place, and what they come to at most: what a reader of numbers wants.
--- Assumes nothing.
 use mathlib.Core.Path.{_≡_, refl, sym, ap, _∙_}
 use mathlib.Core.Bool.{Bool, true, false}
 use mathlib.Core.List.{List, [], _∷_}

@@ -1,5 +1,4 @@
 -- The worked examples hold, each by computation.
--- Assumes nothing.
 use mathlib.Core.Path.{refl}
 use Rattle.bytes.specs.Bytes.{indexOf}
 use Rattle.sheets.specs.Number.{whole, missCost, digitsForm}

@@ -1,5 +1,4 @@
 -- How long a sheet is: line by line, and at most 256 bytes.
--- Assumes nothing.
 use mathlib.Core.Path.{_≡_}
 use mathlib.Core.List.{List}
 use Prim.Native.Nat.{ℕ, _+_, _/_, _^_, _≤_, _<_}

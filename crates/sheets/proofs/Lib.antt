@@ -7,4 +7,3 @@ pub mod Lines
 pub mod Bids
 pub mod Numbers
 pub mod Lengths
-pub mod Refused

@@ -1,5 +1,4 @@
 -- A sheet's lines by the first line feed: the line before it and the lines after it, or bytes that none closes.
--- Assumes nothing.
 use mathlib.Core.Path.{_≡_, refl, ap, _∙_}
 use mathlib.Core.Bool.{Bool, true, false}
 use mathlib.Core.List.{List, [], _∷_}

@@ -1,5 +1,4 @@
 -- The digits of a number: what they are worth, how many they are, and that the reader's definitions take them.
--- Assumes nothing.
 use mathlib.Core.Path.{_≡_, refl, sym, ap, _∙_}
 use mathlib.Core.Bool.{Bool, true, false, false≢true}
 use mathlib.Core.Logic.{_≢_}

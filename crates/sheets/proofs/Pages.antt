@@ -1,9 +1,9 @@
 -- The page lines, one after the other: what the reading of the first says of them all.
--- Assumes nothing.
 use mathlib.Core.Path.{_≡_, refl, ap, _∙_}
-use mathlib.Core.Bool.{Bool, true, false, true≢false, false≢true}
+use mathlib.Core.Bool.{Bool, true, false, true≢false}
 use mathlib.Core.List.{List, []}
 use Prim.Native.Nat.{ℕ, suc, _<_}
+use native.Mathlib.Omega.{arith}
 use lib.ListN.{drop}
 use lib.Dec.{ltb}
 use borrow.Author.Tests.{ltb-true}
@@ -11,26 +11,10 @@ use Rattle.terms.specs.Choice.{if_then_else_, ∣_∣}
 use Rattle.terms.specs.Refusals.{tooManyPages, noSuchLine}
 use Rattle.text.specs.Text.{bytes, starts}
 use Rattle.sheets.specs.Number.{Value, means, wrong, whole}
-use Rattle.sheets.specs.Lines.{Lines, end, unclosed, line, Reading, good, bad, before}
+use Rattle.sheets.specs.Lines.{Lines, end, unclosed, line, good, bad, before}
 use Rattle.sheets.specs.Bid.{listed, refusedAt, numberOfLine, onto, pageMeant, pageLine, pagesFrom}
 
--- A good reading is no refusal, and has one value and one rest; so is a value that means a number.
-abbrev pub isGood : Reading → Bool
-isGood (good v rest) = true
-isGood (bad k) = false
-
-abbrev pub valueRead : Reading → ℕ
-valueRead (good v rest) = v
-valueRead (bad k) = 0
-
-abbrev pub restOf : Reading → Lines
-restOf (good v rest) = rest
-restOf (bad k) = end
-
-abbrev pub isMeant : Value → Bool
-isMeant (means v) = true
-isMeant (wrong k) = false
-
+-- No line is left.
 abbrev pub isEnd : Lines → Bool
 isEnd end = true
 isEnd unclosed = false
@@ -40,12 +24,16 @@ pub record GoodLine (v : Value) (after : Lines) (n : ℕ) (rest : Lines) : Type 
   pub meant : v ≡ means n
   pub same-rest : after ≡ rest
 
+-- A refusal is no good reading.
+never : {A : Type 0} {k n : ℕ} {rest : Lines} → bad k ≡ good n rest → A
+never e = let no : _≡_ {A = ℕ} 0 1 = cc in absurd (omega arith)
+
 -- A line under its key is good only by its value.
 pub good-value : (t : Bool) (v : Value) (after : Lines) (n : ℕ) (rest : Lines)
     → (if t then before v after else bad noSuchLine) ≡ good n rest → GoodLine v after n rest
-good-value true (means x) after n rest e = record { meant = ap means (ap valueRead e); same-rest = ap restOf e }
-good-value true (wrong k) after n rest e = absurd (false≢true (ap isGood e))
-good-value false v after n rest e = absurd (false≢true (ap isGood e))
+good-value true (means x) after n rest e = record { meant = cc; same-rest = cc }
+good-value true (wrong k) after n rest e = never e
+good-value false v after n rest e = never e
 
 pub record NextPage (n : ℕ) (ls : Lines) (page : ℕ) (rest : Lines) : Type 0 where
   pub one-of-thousand : n < 1000
@@ -58,12 +46,12 @@ module _ (n page : ℕ) (rest : Lines) where
     where
       go : (t : Bool) → ltb n 1000 ≡ t → (if t then whole s else wrong tooManyPages) ≡ means page → n < 1000
       go true h e = ltb-true n 1000 h
-      go false h e = absurd (false≢true (ap isMeant e))
+      go false h e = let no : _≡_ {A = ℕ} 0 1 = cc in absurd (omega arith)
 
   pub next-page : (ls : Lines) → pageLine n ls ≡ good page rest → NextPage n ls page rest
   unfolding pageLine
-  next-page end e = absurd (false≢true (ap isGood e))
-  next-page unclosed e = absurd (false≢true (ap isGood e))
+  next-page end e = never e
+  next-page unclosed e = never e
   next-page (line l after) e =
       let s = drop ∣ bytes "page=" ∣ l in
       let g = good-value (starts (bytes "page=") l) (pageMeant n s) after page rest e in

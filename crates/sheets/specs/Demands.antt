@@ -56,6 +56,6 @@ pub record InRange (b : Bid) : Type 0 where
 abbrev pub BidsInRange : Type 0
 BidsInRange = (s : List ℕ) (b : Bid) → meaning s ≡ bid b → InRange b
 
--- "An accepted call gives number 0": no refusal does. [Refused]
+-- "An accepted call gives number 0": no refusal does. [Bids]
 abbrev pub RefusalsHaveNumbers : Type 0
 RefusalsHaveNumbers = (s : List ℕ) (number line : ℕ) → meaning s ≡ refused number line → 1 ≤ number

@@ -1,5 +1,4 @@
 -- What a read's answer tells, by its bits and by how many bytes it can have moved.
--- Assumes nothing.
 use mathlib.Core.Path.{_≡_, refl, sym, ap, subst, _∙_}
 use Prim.Native.Nat.{ℕ, zero, suc, _≤_}
 use native.Mathlib.Omega.{arith}

@@ -1,5 +1,4 @@
 -- A read into a part is a read at the part's place, and what all reads put stands in front as each put it.
--- Assumes nothing.
 use mathlib.Core.Path.{_≡_, refl, sym, ap, subst, _∙_}
 use mathlib.Core.List.{List, _++_}
 use Prim.Native.Nat.{ℕ, _+_, _-_, _≤_}

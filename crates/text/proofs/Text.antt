@@ -1,28 +1,51 @@
--- A key in front of bytes, read on from a place: what a loop over the bytes wants. Two texts of one length are the
--- same where one starts with the other.
-use mathlib.Core.Path.{_≡_, refl, ap, _∙_}
-use mathlib.Core.Bool.{Bool, false}
+-- Bytes from a place on and up to another; a key in front of bytes, read on from a place, as a loop does; and two texts
+-- of one length, which are the same where one starts with the other.
+use mathlib.Core.Path.{_≡_, refl, sym, ap, _∙_}
+use mathlib.Core.Bool.{Bool, true, false, false≢true}
 use mathlib.Core.List.{List, [], _∷_}
-use Prim.Native.Nat.{ℕ, suc, _+_, _<_}
+use Prim.Native.Nat.{ℕ, zero, suc, _+_, _-_, _≤_, _<_}
+use native.Mathlib.Nat.{sub-zero, zero-sub, suc-sub-suc}
 use native.Mathlib.Omega.{arith}
-use lib.ListN.{getD, drop}
-use lib.Seq.{drop-cons}
-use lib.Dec.{eqb}
-use borrow.Author.Tests.{eq-eqb, ne-eqb}
+use lib.ListN.{getD, take, drop, length-drop}
+use lib.Seq.{drop-cons, take-nil, length-take-le}
+use lib.Dec.{eqb, ltb}
+use borrow.Author.Tests.{eq-eqb, ne-eqb, ltb-true, ltb-false}
 use Rattle.terms.specs.Choice.{if_then_else_, ∣_∣, same}
 use Rattle.terms.proofs.Choice.{either}
 use Rattle.text.specs.Text.{starts}
 
--- Bytes from a place inside: the byte there, then those from the next place.
+-- PARTS
+
+-- From a place inside: the byte there, then those from the next place.
 pub from-place : (s : List ℕ) (i : ℕ) → i < ∣ s ∣ → drop i s ≡ getD s i 0 ∷ drop (i + 1) s
 from-place s i inside =
     let next : suc i ≡ i + 1 = omega arith in
     drop-cons s i 0 inside ∙ ap (λ (n : ℕ). getD s i 0 ∷ drop n s) next
 
+-- Cut behind and then in front, or in front and then behind.
+pub drop-take : (from to : ℕ) (s : List ℕ) → drop from (take to s) ≡ take (to - from) (drop from s)
+drop-take zero to s = ap (λ (n : ℕ). take n s) (sym (sub-zero to))
+drop-take (suc from) zero s = ap (λ (n : ℕ). take n (drop (suc from) s)) (sym (zero-sub (suc from)))
+drop-take (suc from) (suc to) [] = sym (take-nil (suc to - suc from))
+drop-take (suc from) (suc to) (b ∷ s) =
+    drop-take from to s ∙ ap (λ (n : ℕ). take n (drop from s)) (sym (suc-sub-suc to from))
+
+pub part-length : (from to : ℕ) (s : List ℕ) → to ≤ ∣ s ∣ → ∣ take (to - from) (drop from s) ∣ ≡ to - from
+part-length from to s inside = length-take-le (to - from) (drop from s) (omega (arith, length-drop from s))
+
+-- A KEY IN FRONT
+
 pub short-lacks : (key s : List ℕ) → ∣ s ∣ < ∣ key ∣ → starts key s ≡ false
 short-lacks [] s h = absurd (omega arith)
 short-lacks (k ∷ key) [] h = refl
 short-lacks (k ∷ key) (b ∷ s) h = either (λ t. t ≡ false) (eqb b k) (short-lacks key s (omega arith)) refl
+
+pub starts-fits : (key s : List ℕ) → starts key s ≡ true → ∣ key ∣ ≤ ∣ s ∣
+starts-fits key s is = fits (ltb ∣ s ∣ ∣ key ∣) refl
+  where
+    fits : (t : Bool) → ltb ∣ s ∣ ∣ key ∣ ≡ t → ∣ key ∣ ≤ ∣ s ∣
+    fits true test = absurd (false≢true (sym (short-lacks key s (ltb-true ∣ s ∣ ∣ key ∣ test)) ∙ is))
+    fits false test = ltb-false ∣ s ∣ ∣ key ∣ test
 
 module _ (key s : List ℕ) (i : ℕ) (in-key : i < ∣ key ∣) (in-bytes : i < ∣ s ∣) where
   abbrev goes-on : Bool → Bool
@@ -33,13 +56,15 @@ module _ (key s : List ℕ) (i : ℕ) (in-key : i < ∣ key ∣) (in-bytes : i <
       ap (λ k. starts k (drop i s)) (from-place key i in-key)
       ∙ ap (starts (getD key i 0 ∷ drop (i + 1) key)) (from-place s i in-bytes)
 
-  pub key-goes-on : getD s i 0 ≡ getD key i 0 → starts (drop i key) (drop i s) ≡ starts (drop (i + 1) key) (drop (i + 1) s)
+  pub key-goes-on : getD s i 0 ≡ getD key i 0
+      → starts (drop i key) (drop i s) ≡ starts (drop (i + 1) key) (drop (i + 1) s)
   key-goes-on is = both-from-here ∙ ap goes-on (eq-eqb (getD s i 0) (getD key i 0) is)
 
   pub key-differs : (getD s i 0 ≡ getD key i 0 → ⊥) → starts (drop i key) (drop i s) ≡ false
   key-differs isnt = both-from-here ∙ ap goes-on (ne-eqb (getD s i 0) (getD key i 0) isnt)
 
--- Bytes of one length are the same when one starts with the other.
+-- TWO TEXTS
+
 pub same-starts : (s t : List ℕ) → ∣ s ∣ ≡ ∣ t ∣ → same s t ≡ starts t s
 same-starts [] [] h = refl
 same-starts [] (y ∷ t) h = refl
