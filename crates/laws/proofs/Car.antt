@@ -19,9 +19,11 @@ use Rattle.laws.proofs.Entries.{set-bits, clear-bits}
 use Rattle.laws.proofs.Lists.{length-tail, length-head-dropped, length-marked, length-without-at-most}
 use Rattle.laws.proofs.Lists.{total-tail, total-head-dropped, total-without, total-marked-same}
 use Rattle.laws.proofs.Repeats.{ComesTo, EndsWith, repeat-ends}
-use Rattle.laws.proofs.Facts.{Shared, CarFacts, Opened, Trimmed}
-use Rattle.laws.proofs.Turns.{holding, Turned, not-turned, turnedTo, Exchanged, turned-on, chosen}
-use Rattle.laws.proofs.Turns.{Demoted, evicted-t1, evicted-t2, dropped-b1, dropped-b2, trimmed-not, trimmed-b1, trimmed-b2}
+use Rattle.laws.proofs.Facts.{Shared, CarFacts, Opened, Trimmed, Left}
+use Rattle.laws.proofs.Placing.{Open, came-back}
+use Rattle.laws.proofs.Turns.{holding, Turned, not-turned, turnedTo, Exchanged, turned-on, by-choice}
+use Rattle.laws.proofs.Turns.{Demoted, evicted-t1, evicted-t2, dropped-b1, dropped-b2}
+use Rattle.laws.proofs.Turns.{trimmed-not, trimmed-b1, trimmed-b2}
 
 -- The accounts that a hand keeps; what looks keep, and what the last one leaves, which moves and clears no bit.
 
@@ -55,7 +57,8 @@ module _ (d : Directory) (shared : Shared d) (own : CarFacts d) (full : cached d
     less = omega (arith, exchanged bits, set-bits e set);
   }
 
-  from-t1 : (l : List Entry) (a : Hand) → let h = holding T1 l a in CarTurning d h → 1 ≤ ∣ l ∣ → CarLooked h (look T1 B1 l h)
+  from-t1 : (l : List Entry) (a : Hand) → let h = holding T1 l a in
+      CarTurning d h → 1 ≤ ∣ l ∣ → CarLooked h (look T1 B1 l h)
   from-t1 [] a t some = absurd (omega arith)
   from-t1 (e ∷ es) a t some =
       by-test (CarLooked (holding T1 (e ∷ es) a)) (e .bit)
@@ -65,7 +68,8 @@ module _ (d : Directory) (shared : Shared d) (own : CarFacts d) (full : cached d
         accounted = omega (arith, total-tail long (a .dir .b1) (demoted e), length-tail (a .dir .b1) (demoted e));
       })
 
-  from-t2 : (l : List Entry) (a : Hand) → let h = holding T2 l a in CarTurning d h → 1 ≤ ∣ l ∣ → CarLooked h (look T2 B2 l h)
+  from-t2 : (l : List Entry) (a : Hand) → let h = holding T2 l a in
+      CarTurning d h → 1 ≤ ∣ l ∣ → CarLooked h (look T2 B2 l h)
   from-t2 [] a t some = absurd (omega arith)
   from-t2 (e ∷ es) a t some =
       by-test (CarLooked (holding T2 (e ∷ es) a)) (e .bit)
@@ -76,7 +80,7 @@ module _ (d : Directory) (shared : Shared d) (own : CarFacts d) (full : cached d
       })
 
   looks : (a : Hand) → CarTurning d a → CarLooked a (choose a)
-  looks a t = chosen shared full (CarLooked a) (t .turned) (from-t1 (a .dir .t1) a t) (from-t2 (a .dir .t2) a t)
+  looks a t = by-choice shared full (CarLooked a) (t .turned) (from-t1 (a .dir .t1) a t) (from-t2 (a .dir .t2) a t)
 
   ended : EndsWith choose (CarOutcome d) (begin 0 0 d) (evict d)
   unfolding evict
@@ -128,15 +132,26 @@ with-new x d own room = omega (arith, total-tail long (d .t1) (newShort x), leng
 pub car-has-room : (x : ℕ) (d : Directory) → CarFacts d → cached d < d .c → remembered d ≡ 0 → CarFacts (placeNew x d)
 car-has-room x d own room no-history = with-new x d own (omega arith)
 
-pub car-places-B1 : (x : ℕ) (h : Hand) → CarFacts (h .dir) → CarFacts (placeB1 x h)
-unfolding placeB1
-car-places-B1 x h own =
-    let b1 = h .dir .b1 in
-    omega (arith, total-without long x b1, length-without-at-most x b1, total-tail long (h .dir .t2) (newShort x))
+module _ (x : ℕ) (h : Hand) (o : Open x (h .dir)) (own : CarFacts (h .dir)) where
+  pub car-places-B1 : has x (h .dir .b1) ≡ true → Left CarFacts x (h .dir) (placeB1 x h)
+  unfolding placeB1
+  car-places-B1 found =
+      let e = newShort x in
+      let b1 = h .dir .b1 in
+      let t2 = h .dir .t2 in
+      came-back e b1 (h .dir) _ o found (omega (arith, o .bounds)) refl refl
+      (λ count. omega (arith, total-tail count t2 e)) (λ count. omega arith)
+      (omega (arith, total-without long x b1, length-without-at-most x b1, total-tail long t2 e))
 
-pub car-places-B2 : (x : ℕ) (h : Hand) → CarFacts (h .dir) → CarFacts (placeB2 x h)
-unfolding placeB2
-car-places-B2 x h own = omega (arith, total-without long x (h .dir .b2), total-tail long (h .dir .t2) (newShort x))
+  pub car-places-B2 : has x (h .dir .b2) ≡ true → Left CarFacts x (h .dir) (placeB2 x h)
+  unfolding placeB2
+  car-places-B2 found =
+      let e = newShort x in
+      let b2 = h .dir .b2 in
+      let t2 = h .dir .t2 in
+      came-back e b2 (h .dir) _ o found (omega (arith, o .bounds)) refl refl
+      (λ count. omega (arith, total-tail count t2 e)) (λ count. omega arith)
+      (omega (arith, total-without long x b2, total-tail long t2 e))
 
 pub car-hits : (x : ℕ) (d : Directory) → CarFacts d → CarFacts (hit x d)
 car-hits x d own =

@@ -1,31 +1,33 @@
--- CART's evict, trim and place: both passes end by themselves, what they keep, and what the demotion and each place leave.
+-- CART's evict, trim and place: both passes end by themselves, what they keep, what the demotion and each place leave.
 -- Every hand move before the demotion lowers what the cache owes by one at least, which bounds the moves.
 use mathlib.Core.Path.{_≡_, refl}
 use mathlib.Core.Bool.{Bool, true, false}
 use mathlib.Core.Logic.{inl, inr, ⊎-elim}
 use mathlib.Core.List.{List, [], _∷_, _++_}
-use Prim.Native.Nat.{ℕ, _+_, _-_, _*_, _/_, _≤_, max, min}
+use Prim.Native.Nat.{ℕ, _+_, _-_, _*_, _≤_, min}
 use native.Mathlib.Omega.{arith}
 use lib.Dec.{leb, ltb, eqb}
 use borrow.Author.Tests.{eqb-true, eqb-false, eq-eqb, ltb-true, ltb-false}
 use Rattle.terms.specs.Choice.{if_then_else_, ∣_∣}
 use Rattle.terms.proofs.Choice.{by-test, by-tests, either}
 use Rattle.figures.specs.Entry.{Entry, Filter, S, L, newLong, cleared, madeLong, demoted, bits, short, long}
-use Rattle.figures.specs.Entry.{total, has, without, dropHead}
-use Rattle.figures.specs.Directory.{Directory, unit, T1, T2, B1, B2, withP, withQ, withList, toTail}
+use Rattle.figures.specs.Entry.{total, has, dropHead}
+use Rattle.figures.specs.Directory.{Directory, T1, T2, B1, B2, withQ, withList}
 use Rattle.figures.specs.Directory.{hit, placeNew, cached, remembered, inCache}
 use Rattle.figures.specs.Hand.{Hand, withDir, turn, Look, again, stop}
 use Rattle.figures.specs.Cart.{raise, becomesLong, passT1, settle, ifLong, cost, owing}
 use Rattle.figures.specs.Cart.{firstLook, secondLook, firstPass, secondPass}
-use Rattle.figures.specs.Cart.{demoteT1, demoteT2, demotion, counted, evict, trim, placeB1, placeB2}
+use Rattle.figures.specs.Cart.{demoteT1, demoteT2, demotion, counted, evict, trim, placeB1, backFromB2, placeB2}
 use Rattle.figures.specs.Demands.{Evicts, CartStops, HeadDropped, CartTrimHasHead}
 use Rattle.laws.proofs.Entries.{set-bits, clear-bits, short-filter, long-filter}
 use Rattle.laws.proofs.Lists.{atHead, head-of-tail, short-or-long}
 use Rattle.laws.proofs.Lists.{total-tail, total-without, total-marked-same, total-head-dropped}
 use Rattle.laws.proofs.Repeats.{ComesTo, EndsWith, repeat-ends}
-use Rattle.laws.proofs.Facts.{Shared, CartFacts, Opened, Trimmed}
-use Rattle.laws.proofs.Turns.{holding, Turned, not-turned, turnedTo, Exchanged, turned-on, chosen}
-use Rattle.laws.proofs.Turns.{Demoted, evicted-t1, evicted-t2, dropped-b1, dropped-b2, trimmed-not, trimmed-b1, trimmed-b2}
+use Rattle.laws.proofs.Facts.{Shared, CartFacts, Opened, Trimmed, Left}
+use Rattle.laws.proofs.Placing.{Open, came-back}
+use Rattle.laws.proofs.Turns.{holding, Turned, not-turned, turnedTo, Exchanged, turned-on, by-choice}
+use Rattle.laws.proofs.Turns.{Demoted, evicted-t1, evicted-t2, dropped-b1, dropped-b2}
+use Rattle.laws.proofs.Turns.{trimmed-not, trimmed-b1, trimmed-b2}
 
 pub cost-at-most-two : (e : Entry) → cost e ≤ 2
 cost-at-most-two e = either (λ n. n ≤ 2) (e .bit) (omega arith) (omega (arith, short-or-long (e .filter)))
@@ -37,12 +39,12 @@ cost-counts e = go (e .bit)
     go true = omega (arith, short-or-long (e .filter))
     go false = omega arith
 
--- Raise changes q alone, which fits then too.
-raise-leaves : (P : Directory → Type 0) (nS : ℕ) (d : Directory) → d .q ≤ 2 * d .c
-    → ((q : ℕ) → q ≤ 2 * d .c → P (withQ q d)) → P (raise nS d)
-raise-leaves P nS d fits p =
+-- Raise changes q alone, and a q that fits fits then too.
+pub raise-leaves : (P : Directory → Type 0) (nS : ℕ) (d : Directory)
+    → ((q : ℕ) → (d .q ≤ 2 * d .c → q ≤ 2 * d .c) → P (withQ q d)) → P (raise nS d)
+raise-leaves P nS d whatever =
     either P (leb (d .c) (∣ d .t2 ∣ + ∣ d .b2 ∣ + ∣ d .t1 ∣ - nS))
-    (p (min (d .q + 1) (2 * d .c - ∣ d .t1 ∣)) (omega arith)) (p (d .q) fits)
+    (whatever (min (d .q + 1) (2 * d .c - ∣ d .t1 ∣)) (λ fits. omega arith)) (whatever (d .q) (λ fits. fits))
 
 -- The accounts that a hand keeps; what both passes keep, and what a turn must bring for that.
 
@@ -102,8 +104,8 @@ module _ (d : Directory) where
       let h′ = turn T2 T1 cleared e es h in
       by-test (FirstLooked h) (e .bit)
       (λ set.
-      raise-leaves (λ d′. FirstLooked h (again (withDir d′ h′))) (h′ .nS) (h′ .dir) (passing .accounted .own .q-fits)
-      (λ q fits. record {
+      raise-leaves (λ d′. FirstLooked h (again (withDir d′ h′))) (h′ .nS) (h′ .dir)
+      (λ q fits. let q-fits = fits (passing .accounted .own .q-fits) in record {
         good = turn-keeps e e refl passing (λ count. omega (arith, total-tail count t1 (cleared e)))
             (omega (arith, total-tail cost t1 (cleared e), set-bits e set, short-or-long (e .filter)));
         less = omega (arith, set-bits e set);
@@ -193,14 +195,16 @@ module _ (d : Directory) (shared : Shared d) (own : CartFacts d) (full : cached 
   pub cart-stops : CartStops d
   cart-stops = record { first = first .by-itself; second = second .by-itself }
 
-  from-t1 : (l : List Entry) (a : Hand) → let h = holding T1 l a in Settled d h → 1 ≤ ∣ l ∣ → CartOutcome d (demoteT1 l h)
+  from-t1 : (l : List Entry) (a : Hand) → let h = holding T1 l a in
+      Settled d h → 1 ≤ ∣ l ∣ → CartOutcome d (demoteT1 l h)
   from-t1 [] a settled some = absurd (omega arith)
   from-t1 (e ∷ es) a settled some = record {
     evicted = evicted-t1 shared e es a (settled .settling .passing .turned) (omega (arith, cost-counts e));
     accounted = omega (arith, cost-counts e, short-or-long (e .filter), total-tail long (a .dir .b1) (demoted e));
   }
 
-  from-t2 : (l : List Entry) (a : Hand) → let h = holding T2 l a in Settled d h → 1 ≤ ∣ l ∣ → CartOutcome d (demoteT2 l h)
+  from-t2 : (l : List Entry) (a : Hand) → let h = holding T2 l a in
+      Settled d h → 1 ≤ ∣ l ∣ → CartOutcome d (demoteT2 l h)
   from-t2 [] a settled some = absurd (omega arith)
   from-t2 (e ∷ es) a settled some = record {
     evicted = evicted-t2 shared e es a (settled .settling .passing .turned) (settled .settling .t2-clear);
@@ -209,7 +213,8 @@ module _ (d : Directory) (shared : Shared d) (own : CartFacts d) (full : cached 
 
   demotes : (a : Hand) → Settled d a → CartOutcome d (demotion a)
   demotes a settled =
-      chosen shared full (CartOutcome d) (settled .settling .passing .turned) (from-t1 (a .dir .t1) a settled) (from-t2 (a .dir .t2) a settled)
+      by-choice shared full (CartOutcome d) (settled .settling .passing .turned)
+      (from-t1 (a .dir .t1) a settled) (from-t2 (a .dir .t2) a settled)
 
   outcome : CartOutcome d (evict d)
   unfolding evict
@@ -233,7 +238,7 @@ module _ (d : Directory) (shared : Shared d) (own : CartFacts d) (full : cached 
   pub cart-moves : evict d .moves + owing (evict d .dir) ≤ 1 + owing d
   cart-moves = outcome .accounted .moves-paid
 
--- Trim leaves the directory as it was, or, where the histories are one too many, without the head of one that has a head.
+-- Trim leaves the directory as it was, or, where the histories are one too many, without the head of one of them.
 
 module _ (d : Directory) where
   trim-leaves : (P : Directory → Type 0) → (¬ (remembered d ≡ d .c + 1) → P d)
@@ -258,7 +263,8 @@ module _ (d : Directory) where
     drops-B2 = λ more not-oldest.
         rw (eq-eqb _ _ more)
         (by-tests (HeadDropped B2 d) (ltb (d .q) ∣ d .b1 ∣) (eqb ∣ d .b2 ∣ 0)
-        (λ longer. absurd (not-oldest (inl (ltb-true _ _ longer)))) (λ none. absurd (not-oldest (inr (eqb-true _ _ none))))
+        (λ longer. absurd (not-oldest (inl (ltb-true _ _ longer))))
+        (λ none. absurd (not-oldest (inr (eqb-true _ _ none))))
         (λ shorter some. dropped-b2 d (omega (arith, eqb-false))));
   }
 
@@ -278,17 +284,23 @@ cart-places-new x d own =
     (trim-leaves d CartFacts (λ fits. own)
     (λ some. omega (arith, total-head-dropped long (d .b1))) (λ some. omega (arith, total-head-dropped short (d .b2))))
 
-pub cart-places-B1 : (x : ℕ) (h : Hand) → CartFacts (h .dir) → CartFacts (placeB1 x h)
-unfolding placeB1
-cart-places-B1 x h own = omega (arith, total-without long x (h .dir .b1))
+module _ (x : ℕ) (h : Hand) (o : Open x (h .dir)) (own : CartFacts (h .dir)) where
+  pub cart-places-B1 : has x (h .dir .b1) ≡ true → Left CartFacts x (h .dir) (placeB1 x h)
+  unfolding placeB1
+  cart-places-B1 found =
+      let b1 = h .dir .b1 in
+      came-back (newLong x) b1 (h .dir) _ o found (omega (arith, o .bounds)) refl refl
+      (λ count. omega (arith, total-tail count (h .dir .t1) (newLong x))) (λ count. omega arith)
+      (omega (arith, total-without long x b1))
 
-pub cart-places-B2 : (x : ℕ) (h : Hand) → CartFacts (h .dir) → CartFacts (placeB2 x h)
-unfolding placeB2
-cart-places-B2 x h own =
-    let d = h .dir in
-    let p = d .p - max unit (unit * h .nL / ∣ d .b2 ∣) in
-    raise-leaves CartFacts (h .nS) (toTail T1 (newLong x) (withList B2 (without x (d .b2)) (withP p d))) (own .q-fits)
-    (λ q fits. omega (arith, total-without short x (d .b2)))
+  pub cart-places-B2 : has x (h .dir .b2) ≡ true → Left CartFacts x (h .dir) (placeB2 x h)
+  unfolding placeB2
+  cart-places-B2 found =
+      let b2 = h .dir .b2 in
+      raise-leaves (Left CartFacts x (h .dir)) (h .nS) (backFromB2 x h) (λ q fits.
+      came-back (newLong x) b2 (h .dir) _ o found (omega (arith, o .bounds)) refl refl
+      (λ count. omega (arith, total-tail count (h .dir .t1) (newLong x))) (λ count. omega arith)
+      (omega (arith, fits (own .q-fits), total-without short x b2)))
 
 pub cart-hits : (x : ℕ) (d : Directory) → CartFacts d → CartFacts (hit x d)
 cart-hits x d own =

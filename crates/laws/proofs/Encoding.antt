@@ -1,4 +1,4 @@
--- Words and directories are two forms of one thing: what is encoded decodes to itself, and sound words are those of a directory.
+-- Words and directories are two forms of one thing: what is encoded decodes to itself, and sound words are encoded.
 -- The four lists are read at once where they can be: the words of all listed entries are the words in use.
 use mathlib.Core.Path.{_≡_, refl, sym, ap, _∙_}
 use mathlib.Core.Bool.{true}
@@ -162,8 +162,9 @@ shaped w exact cache history flags-small unused-small =
     let b2 = length-entries (nB2 w) (drop (8 + 2 * (nT1 w + nT2 w + nB1 w)) w) (simp length-drop (omega arith)) in
     let used-part : words (listed (decode w)) ≡ take (used w) (drop 8 w) =
     rw listed-decode (words-entries (stated w) (drop 8 w) (simp length-drop (omega arith)) flags-small) in
-    let rest : 4 * size w - 2 * (cached (decode w) + remembered (decode w)) ≡ ∣ unused w ∣ = simp length-drop (omega arith) in
-    let unused-part : zeros (decode w) ≡ unused w = rw rest (sym (all-zero (unused w) unused-small)) in
+    let d = decode w in
+    let rest : 4 * size w - 2 * (cached d + remembered d) ≡ ∣ unused w ∣ = simp length-drop (omega arith) in
+    let unused-part : zeros d ≡ unused w = rw rest (sym (all-zero (unused w) unused-small)) in
     let body : drop 8 (encode (decode w)) ≡ drop 8 w =
     rw (encode-listed, used-part, unused-part, ← drop-drop) (take-append-drop (used w) (drop 8 w)) in
     cc (one-by-one w 8 0 (omega arith))

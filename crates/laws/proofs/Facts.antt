@@ -1,5 +1,5 @@
--- What soundness says of a directory's value, in numbers that omega reads, and that the test says just that.
--- Pages that differ are pages that count at most once.
+-- What soundness says of a directory's value, in numbers that omega reads; pages that differ count at most once.
+-- Then what the evict part, trim and a whole request must leave of it, whichever policy it names.
 use mathlib.Core.Path.{_≡_, subst}
 use mathlib.Core.Bool.{true}
 use Prim.Native.Nat.{ℕ, _+_, _*_, _≤_, _<_}
@@ -50,7 +50,8 @@ pub record Facts (d : Directory) : Type 0 where
 pub own-by : {d : Directory} {n : ℕ} → Facts d → d .policy ≡ n → policyOf n .ownSound (encode d) ≡ true
 own-by {d} f named = subst (λ (n : ℕ). policyOf n .ownSound (encode d) ≡ true) named (f .own)
 
--- What the evict part does, whichever policy: one page less is cached, at most one more remembered, no page more listed.
+-- What the evict part does, whichever policy: one page less is cached, at most one more remembered, and no page more
+-- listed.
 pub record Opened (d d′ : Directory) : Type 0 where
   pub same-policy : d′ .policy ≡ d .policy
   pub same-c : d′ .c ≡ d .c
@@ -71,3 +72,21 @@ pub record Trimmed (d d′ : Directory) : Type 0 where
   pub fewer-b1 : (count : Entry → ℕ) → total count (d′ .b1) ≤ total count (d .b1)
   pub fewer-b2 : (count : Entry → ℕ) → total count (d′ .b2) ≤ total count (d .b2)
   pub history-fits : remembered d′ ≤ d .c
+
+module _ {d d′ : Directory} (t : Trimmed d d′) where
+  pub same-cache : (count : Entry → ℕ) → inCache count d′ ≡ inCache count d
+  same-cache count = rw (t .same-t1, t .same-t2)
+
+  pub trimmed-cached : cached d′ ≡ cached d
+  trimmed-cached = rw (t .same-t1, t .same-t2)
+
+  pub fewer-remembered : (count : Entry → ℕ) → inHistory count d′ ≤ inHistory count d
+  fewer-remembered count = omega (arith, t .fewer-b1 count, t .fewer-b2 count)
+
+-- What a request must leave of a directory: the rules of all policies and the policy's own, with page x cached.
+pub record Left (Own : Directory → Type 0) (x : ℕ) (d d′ : Directory) : Type 0 where
+  pub shared : Shared d′
+  pub own : Own d′
+  pub is-cached : 1 ≤ inCache (is x) d′
+  pub same-policy : d′ .policy ≡ d .policy
+  pub same-c : d′ .c ≡ d .c

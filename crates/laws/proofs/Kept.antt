@@ -1,34 +1,34 @@
 -- Every request leaves a sound directory in which the requested page is in T1 or T2: said once, over what a policy's
 -- functions keep, and then of every row.
 use mathlib.Core.Path.{_≡_, refl, sym, ap, _∙_, subst}
-use mathlib.Core.Bool.{Bool, true, false, _||_}
+use mathlib.Core.Bool.{true, false, _||_}
 use mathlib.Core.List.{List, [], _∷_}
 use Prim.Native.Nat.{ℕ, _≤_, _<_}
 use native.Mathlib.Omega.{arith}
 use lib.Dec.{eqb}
-use borrow.Author.Tests.{eqb-true, eqb-false, eq-eqb}
-use Rattle.terms.specs.Choice.{if_then_else_}
+use borrow.Author.Tests.{eqb-true, eqb-false}
 use Rattle.terms.specs.Policies.{knownPolicy}
 use Rattle.terms.proofs.Tests.{reads}
-use Rattle.figures.specs.Entry.{has}
+use Rattle.figures.specs.Entry.{newShort, has}
 use Rattle.figures.specs.Directory.{Directory, fresh, placeNew, cached, inCache}
 use Rattle.figures.specs.Words.{encode}
 use Rattle.figures.specs.Hand.{Hand}
 use Rattle.figures.specs.Policy.{Policy, policyOf}
 use Rattle.figures.specs.Request.{missed, serve, request}
 use Rattle.figures.specs.Demands.{Sound, rowOf, RequestKeeps, FreshIsSound}
-use Rattle.laws.proofs.Lists.{is}
-use Rattle.laws.proofs.Facts.{Shared, Opened, Trimmed}
+use Rattle.laws.proofs.Lists.{is, is-itself}
+use Rattle.laws.proofs.Facts.{Shared, Opened, Trimmed, Left}
 use Rattle.laws.proofs.Soundness.{facts, facts-sound}
 use Rattle.laws.proofs.Requests.{serve-by-cases, missed-by-cases, after}
 use Rattle.laws.proofs.Placing.{Roomy, Open, counted-cached, found-counted, missed-uncounted}
 use Rattle.laws.proofs.Placing.{new-cached, new-keeps, opened-open, trimmed-roomy, room-roomy}
-use Rattle.laws.proofs.Laws.{Left, Keeps, Lawful}
+use Rattle.laws.proofs.Laws.{Keeps, Lawful}
 use Rattle.laws.proofs.Lawful.{lawful}
 
-module _ (π : Policy) (Own : Directory → Type 0) (keeps : Keeps π Own) (x : ℕ) (d : Directory) (shared : Shared d) (own : Own d) where
+module _ (π : Policy) (Own : Directory → Type 0) (keeps : Keeps π Own) (x : ℕ) (d : Directory) (shared : Shared d)
+    (own : Own d) where
   new-counted : (d′ : Directory) → 1 ≤ inCache (is x) (placeNew x d′)
-  new-counted d′ = omega (arith, new-cached x d′ x, ap {B = ℕ} (λ (b : Bool). if b then 1 else 0) (eq-eqb x x refl))
+  new-counted d′ = omega (arith, new-cached x d′ x, is-itself x (newShort x) refl)
 
   left-by-hit : has x (d .t1) || has x (d .t2) ≡ true → Left Own x d (π .hit x d)
   left-by-hit found = keeps .hits x d shared own (found-counted x d found)
@@ -44,7 +44,8 @@ module _ (π : Policy) (Own : Directory → Type 0) (keeps : Keeps π Own) (x : 
   left-by-room not-found not-full =
       let differs = eqb-false (cached d) (d .c) not-full in
       let room : cached d < d .c = omega (arith, shared .cache-fits) in
-      left-by-new d (room-roomy x d shared room (missed-uncounted x d not-found)) (keeps .has-room x d own room (shared .room-no-history room)) refl refl
+      left-by-new d (room-roomy x d shared room (missed-uncounted x d not-found))
+      (keeps .has-room x d own room (shared .room-no-history room)) refl refl
 
   -- A page that comes back is judged from the directory that the evict part left.
   from-opened : (d′ d″ : Directory) → Opened d d′ → Left Own x d′ d″ → Left Own x d d″
@@ -56,7 +57,8 @@ module _ (π : Policy) (Own : Directory → Type 0) (keeps : Keeps π Own) (x : 
     same-c = l .same-c ∙ o .same-c;
   }
 
-  left-by-evicting : has x (d .t1) || has x (d .t2) ≡ false → cached d ≡ d .c → Left Own x d (missed π x (π .evict d) .dir)
+  left-by-evicting : has x (d .t1) || has x (d .t2) ≡ false → cached d ≡ d .c
+      → Left Own x d (missed π x (π .evict d) .dir)
   left-by-evicting not-found full =
       missed-by-cases π x h (λ s. Left Own x d (s .dir))
       (λ in-b1. from-opened (h .dir) _ o (keeps .back-B1 x h open-h own-h in-b1))

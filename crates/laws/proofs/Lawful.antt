@@ -11,36 +11,21 @@ use Rattle.terms.specs.Policies.{knownPolicy}
 use Rattle.terms.proofs.Choice.{either}
 use Rattle.terms.proofs.ByPolicy.{by-policy}
 use Rattle.figures.specs.Entry.{newShort, newLong, bits, total}
-use Rattle.figures.specs.Directory.{Directory, hit, placeNew, cached, remembered, inCache}
+use Rattle.figures.specs.Directory.{Directory, placeNew, cached, remembered, inCache}
 use Rattle.figures.specs.Car as Car
 use Rattle.figures.specs.Cart as Cart
 use Rattle.figures.specs.Policy.{carPolicy, cartPolicy, policyOf}
 use Rattle.figures.specs.Demands.{RowsNumbered}
-use Rattle.laws.proofs.Lists.{is, total-tail, total-at-most, total-marked-at-most, bits-at-most-one}
-use Rattle.laws.proofs.Facts.{Shared, CarFacts, CartFacts}
+use Rattle.laws.proofs.Lists.{total-tail, total-at-most, total-marked-at-most, bits-at-most-one}
+use Rattle.laws.proofs.Facts.{CarFacts, CartFacts}
 use Rattle.laws.proofs.Soundness.{car-iff, cart-iff}
-use Rattle.laws.proofs.Placing.{BackInCache, hit-either, hit-keeps, hit-cached, raised}
-use Rattle.laws.proofs.Placing.{car-B1-back, car-B2-back, cart-B1-back, cart-B2-back}
+use Rattle.laws.proofs.Placing.{hit-either, hit-leaves}
 use Rattle.laws.proofs.Car.{car-evicts, car-moves, car-opens, car-opened, car-trims}
 use Rattle.laws.proofs.Car.{car-places-new, car-places-B1, car-places-B2, car-hits, car-has-room}
-use Rattle.laws.proofs.Cart.{cost-at-most-two, cart-evicts, cart-moves, cart-opens, cart-opened, cart-trims}
+use Rattle.laws.proofs.Cart.{cost-at-most-two, raise-leaves}
+use Rattle.laws.proofs.Cart.{cart-evicts, cart-moves, cart-opens, cart-opened, cart-trims}
 use Rattle.laws.proofs.Cart.{cart-places-new, cart-places-B1, cart-places-B2, cart-hits, cart-has-room}
-use Rattle.laws.proofs.Laws.{Left, Keeps, Pays, Lawful}
-
-came-back-left : (Own : Directory → Type 0) (x : ℕ) (d d′ : Directory) → BackInCache x d d′ → Own d′ → Left Own x d d′
-came-back-left Own x d d′ b own =
-    record { shared = b .shared; own = own; is-cached = b .is-cached; same-policy = b .same-policy; same-c = b .same-c }
-
--- A hit that sets the bit.
-marked-left : (Own : Directory → Type 0) (x : ℕ) (d : Directory) → Shared d → 1 ≤ inCache (is x) d → Own (hit x d)
-    → Left Own x d (hit x d)
-marked-left Own x d shared found own = record {
-  shared = hit-keeps d shared x;
-  own = own;
-  is-cached = omega (arith, hit-cached x d);
-  same-policy = hit-either (λ d′. d′ .policy ≡ d .policy) x d refl refl;
-  same-c = hit-either (λ d′. d′ .c ≡ d .c) x d refl refl;
-}
+use Rattle.laws.proofs.Laws.{Keeps, Pays, Lawful}
 
 -- CAR
 
@@ -51,9 +36,9 @@ car-keeps = record {
   trims = car-trims;
   places-new = λ x d free own. car-places-new d free own x;
   has-room = car-has-room;
-  hits = λ x d shared own found. marked-left CarFacts x d shared found (car-hits x d own);
-  back-B1 = λ x h o own found. came-back-left CarFacts x (h .dir) _ (car-B1-back x h o found) (car-places-B1 x h own);
-  back-B2 = λ x h o own found. came-back-left CarFacts x (h .dir) _ (car-B2-back x h o found) (car-places-B2 x h own);
+  hits = λ x d shared own found. hit-leaves x d shared found (car-hits x d own);
+  back-B1 = car-places-B1;
+  back-B2 = car-places-B2;
 }
 
 car-trim-owes : (d : Directory) → inCache bits (Car.trim d) ≡ inCache bits d
@@ -104,11 +89,9 @@ cart-keeps = record {
   trims = λ d free history own. cart-trims d history;
   places-new = λ x d free own. cart-places-new x d own;
   has-room = λ x d own room none. cart-has-room x d own;
-  hits = λ x d shared own found. marked-left CartFacts x d shared found (cart-hits x d own);
-  back-B1 = λ x h o own found.
-      came-back-left CartFacts x (h .dir) _ (cart-B1-back x h o found) (cart-places-B1 x h own);
-  back-B2 = λ x h o own found.
-      came-back-left CartFacts x (h .dir) _ (cart-B2-back x h o found) (cart-places-B2 x h own);
+  hits = λ x d shared own found. hit-leaves x d shared found (cart-hits x d own);
+  back-B1 = cart-places-B1;
+  back-B2 = cart-places-B2;
 }
 
 cart-trim-owes : (d : Directory) → Cart.owing (Cart.trim d) ≡ Cart.owing d
@@ -136,7 +119,8 @@ cart-pays = record {
   new = λ x d. omega (arith, total-tail Cart.cost (d .t1) (newShort x));
   back-B1 = λ x h. long-lands x (h .dir);
   back-B2 = λ x h.
-      raised (λ d. Cart.owing d + 1 ≤ Cart.owing (h .dir) + 2) (h .nS) (Cart.backFromB2 x h) (λ q. long-lands x (h .dir));
+      raise-leaves (λ d. Cart.owing d + 1 ≤ Cart.owing (h .dir) + 2) (h .nS) (Cart.backFromB2 x h)
+      (λ q fits. long-lands x (h .dir));
   fresh-owes = λ n c. refl;
 }
 

@@ -1,5 +1,5 @@
--- What is proved of each policy's row, in one record: all that is promised of requests and runs is proved over it, once.
--- The records of the rows are in Lawful.
+-- What is proved of each policy's row, in one record, over which all that is promised of requests and runs is proved
+-- once. The records of the rows are in Lawful.
 use mathlib.Core.Path.{_≡_}
 use mathlib.Core.Bool.{true}
 use mathlib.Core.Logic.{_↔_}
@@ -11,16 +11,8 @@ use Rattle.figures.specs.Hand.{Hand}
 use Rattle.figures.specs.Policy.{Policy}
 use Rattle.figures.specs.Demands.{Evicts}
 use Rattle.laws.proofs.Lists.{is}
-use Rattle.laws.proofs.Facts.{Shared, Opened, Trimmed}
+use Rattle.laws.proofs.Facts.{Shared, Opened, Trimmed, Left}
 use Rattle.laws.proofs.Placing.{Open}
-
--- What a request must leave of a directory: the rules of all policies and the policy's own, with page x cached.
-pub record Left (Own : Directory → Type 0) (x : ℕ) (d d′ : Directory) : Type 0 where
-  pub shared : Shared d′
-  pub own : Own d′
-  pub is-cached : 1 ≤ inCache (is x) d′
-  pub same-policy : d′ .policy ≡ d .policy
-  pub same-c : d′ .c ≡ d .c
 
 -- What a policy's functions keep of its own rules, and that a page that is hit or comes back is cached.
 pub record Keeps (π : Policy) (Own : Directory → Type 0) : Type 0 where

@@ -10,7 +10,8 @@ use lib.Dec.{eqb}
 use borrow.Author.Tests.{eq-eqb}
 use Rattle.terms.specs.Choice.{if_then_else_, ∣_∣}
 use Rattle.terms.proofs.Choice.{either}
-use Rattle.figures.specs.Entry.{Entry, Filter, S, L, marked, bits, shortOf, longOf, short, long, total, has, mark, without, dropHead}
+use Rattle.figures.specs.Entry.{Entry, Filter, S, L, marked, bits, shortOf, longOf, short, long}
+use Rattle.figures.specs.Entry.{total, has, mark, without, dropHead}
 
 -- 1 where the entry is for page x.
 abbrev pub is : ℕ → Entry → ℕ
@@ -70,7 +71,8 @@ module _ (count : Entry → ℕ) where
       let h = total-without x l in
       either (λ w. total count w ≤ count e + total count l) (eqb (e .page) x) (omega arith) (omega arith)
 
-  pub total-marked-same : ((e : Entry) → count (marked e) ≡ count e) → (x : ℕ) (l : List Entry) → total count (mark x l) ≡ total count l
+  pub total-marked-same : ((e : Entry) → count (marked e) ≡ count e) → (x : ℕ) (l : List Entry)
+      → total count (mark x l) ≡ total count l
   total-marked-same same x [] = refl
   total-marked-same same x (e ∷ l) =
       let h = total-marked-same same x l in
@@ -81,7 +83,8 @@ module _ (count : Entry → ℕ) where
   total-marked-at-most more most x [] = omega arith
   total-marked-at-most more most x (e ∷ l) =
       let h = total-marked-at-most more most x l in
-      either (λ m. total count m ≤ count e + total count l + more) (eqb (e .page) x) (omega (arith, most e)) (omega arith)
+      either (λ m. total count m ≤ count e + total count l + more) (eqb (e .page) x)
+      (omega (arith, most e)) (omega arith)
 
 pub length-head-dropped : (l : List Entry) → ∣ dropHead l ∣ ≡ ∣ l ∣ - 1
 length-head-dropped [] = refl

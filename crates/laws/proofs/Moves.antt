@@ -22,20 +22,25 @@ use Rattle.laws.proofs.Soundness.{facts}
 use Rattle.laws.proofs.Requests.{serve-by-cases, missed-by-cases, missed-moves, after, run-after}
 use Rattle.laws.proofs.Car.{car-moves}
 use Rattle.laws.proofs.Laws.{Pays}
-use Rattle.laws.proofs.Kept.{laws, owns, request-keeps, fresh-is-sound, run-keeps, run-same-policy, run-same-size}
+use Rattle.laws.proofs.Kept.{laws, owns, request-keeps, fresh-is-sound}
+use Rattle.laws.proofs.Kept.{run-keeps, run-same-policy, run-same-size}
 use Rattle.laws.proofs.Stops.{car-facts}
 
 pub still-requests : StillRequests
 still-requests x d =
-    serve-by-cases (rowOf d) x d (λ s. s .kind ≤ 1 → (s .page ≡ 0) × (s .list ≡ 0) × (s .moves ≡ 0))
+    serve-by-cases (rowOf d) x d Still
     (λ found k. (refl, refl, refl))
     (λ not-found room k. (refl, refl, refl))
     (λ not-found full.
-    missed-by-cases (rowOf d) x _ (λ s. s .kind ≤ 1 → (s .page ≡ 0) × (s .list ≡ 0) × (s .moves ≡ 0))
-    (λ in-b1 k. absurd (omega arith)) (λ not-b1 in-b2 k. absurd (omega arith)) (λ not-b1 not-b2 k. absurd (omega arith)))
+    missed-by-cases (rowOf d) x _ Still (λ in-b1 k. absurd (omega arith)) (λ not-b1 in-b2 k. absurd (omega arith))
+    (λ not-b1 not-b2 k. absurd (omega arith)))
+  where
+    Still : Served → Type 0
+    Still s = s .kind ≤ 1 → (s .page ≡ 0) × (s .list ≡ 0) × (s .moves ≡ 0)
 
 -- A request's moves are none, or those of the evict part of a full cache.
-moves-by : (π : Policy) (x : ℕ) (d : Directory) (P : ℕ → Type 0) → P 0 → (cached d ≡ d .c → P (π .evict d .moves)) → P (serve π x d .moves)
+moves-by : (π : Policy) (x : ℕ) (d : Directory) (P : ℕ → Type 0) → P 0 → (cached d ≡ d .c → P (π .evict d .moves))
+    → P (serve π x d .moves)
 moves-by π x d P none evicting =
     serve-by-cases π x d (λ s. P (s .moves)) (λ found. none) (λ not-found room. none)
     (λ not-found full. subst P (sym (missed-moves π x (π .evict d))) (evicting (eqb-true (cached d) (d .c) full)))
@@ -79,13 +84,15 @@ module _ (π : Policy) (Own : Directory → Type 0) (p : Pays π Own) (x : ℕ) 
       Paid : Served → Type 0
       Paid s = s .moves + π .owed (s .dir) ≤ π .movesEach + π .owed d
 
-pub request-pays : (x : ℕ) (d : Directory) → Sound d → request x d .moves + owed (request x d .dir) ≤ movesEach d + owed d
+pub request-pays : (x : ℕ) (d : Directory) → Sound d
+    → request x d .moves + owed (request x d .dir) ≤ movesEach d + owed d
 request-pays x d s =
     let d′ = request x d .dir in
     let same = ap (λ (n : ℕ). policyOf n .owed d′) (request-keeps x d s .same-policy) in
     omega (arith, same, pays (rowOf d) (laws d s .Own) (laws d s .pays) x d (facts d s .shared) (owns d s))
 
-run-moves : (t : Tally) (trace : List ℕ) (d : Directory) → Sound d → runFrom t trace d .tally .moves ≤ t .moves + (movesEach d * ∣ trace ∣ + owed d)
+run-moves : (t : Tally) (trace : List ℕ) (d : Directory) → Sound d
+    → runFrom t trace d .tally .moves ≤ t .moves + (movesEach d * ∣ trace ∣ + owed d)
 unfolding runFrom
 run-moves t [] d s = omega arith
 run-moves t (x ∷ trace) d s =

@@ -26,10 +26,12 @@ module _ (π : Policy) (x : ℕ) (d : Directory) where
   unfolding serve
   serve-miss h = ap (λ (b : Bool). if b then still 0 (π .hit x d) else miss (eqb (cached d) (d .c))) h
 
-  pub serve-room : has x (d .t1) || has x (d .t2) ≡ false → eqb (cached d) (d .c) ≡ false → serve π x d ≡ still 1 (placeNew x d)
+  pub serve-room : has x (d .t1) || has x (d .t2) ≡ false → eqb (cached d) (d .c) ≡ false
+      → serve π x d ≡ still 1 (placeNew x d)
   serve-room h room = serve-miss h ∙ ap miss room
 
-  pub serve-full : has x (d .t1) || has x (d .t2) ≡ false → eqb (cached d) (d .c) ≡ true → serve π x d ≡ missed π x (π .evict d)
+  pub serve-full : has x (d .t1) || has x (d .t2) ≡ false → eqb (cached d) (d .c) ≡ true
+      → serve π x d ≡ missed π x (π .evict d)
   serve-full h full = serve-miss h ∙ ap miss full
 
   -- What holds in each case holds of the request.
@@ -60,7 +62,8 @@ module _ (π : Policy) (x : ℕ) (h : Hand) where
   pub missed-B2 : has x (h .dir .b1) ≡ false → has x (h .dir .b2) ≡ true → missed π x h ≡ evicted 4 h (π .placeB2 x h)
   missed-B2 f g = missed-elsewhere f ∙ ap elsewhere g
 
-  pub missed-new : has x (h .dir .b1) ≡ false → has x (h .dir .b2) ≡ false → missed π x h ≡ evicted 2 h (placeNew x (π .trim (h .dir)))
+  pub missed-new : has x (h .dir .b1) ≡ false → has x (h .dir .b2) ≡ false
+      → missed π x h ≡ evicted 2 h (placeNew x (π .trim (h .dir)))
   missed-new f g = missed-elsewhere f ∙ ap elsewhere g
 
   pub missed-by-cases : (P : Served → Type 0)

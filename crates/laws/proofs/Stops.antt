@@ -6,7 +6,8 @@ use Rattle.terms.specs.Policies.{car, cart}
 use Rattle.figures.specs.Directory.{Directory}
 use Rattle.figures.specs.Car as Car
 use Rattle.figures.specs.Cart as Cart
-use Rattle.figures.specs.Demands.{Sound, PublishedStopComesFirst, EvictsOne, EvictedIsRemembered, CountsKept, TrimHasHead}
+use Rattle.figures.specs.Demands.{Sound, PublishedStopComesFirst, EvictsOne, EvictedIsRemembered}
+use Rattle.figures.specs.Demands.{CountsKept, TrimHasHead}
 use Rattle.laws.proofs.Facts.{Shared, CarFacts, CartFacts, own-by}
 use Rattle.laws.proofs.Soundness.{facts, car-iff, cart-iff}
 use Rattle.laws.proofs.Car.{car-stops, car-opens, car-remembers, car-opened, car-trim-has-head}

@@ -16,7 +16,8 @@ use Rattle.figures.specs.Demands.{Evicts, byPage, HeadDropped}
 use Rattle.laws.proofs.Lists.{is, one, total-tail, total-head-dropped, length-head-dropped}
 use Rattle.laws.proofs.Facts.{inHistory, cached-counts, remembered-counts, Shared, Opened, Trimmed}
 
--- The hand with l for its list i: with that list itself it is the same hand, so that a law by clauses on l is one on its list.
+-- The hand with l for its list i. With that list itself it is the same hand, so that a law by clauses on l is a law of
+-- its list.
 abbrev pub holding : Name → List Entry → Hand → Hand
 holding i l h = withDir (withList i l (h .dir)) h
 
@@ -81,7 +82,8 @@ module _ {d : Directory} {a : Hand} (t : Turned d a) where
     bits-accounted = omega (arith, exchanged bits);
   }
 
--- Both figures choose between T1 and T2 by one test, and the chosen list has a head; its head is then demoted to its history.
+-- Both figures choose between T1 and T2 by one test, and the chosen list has a head, which is then demoted to its
+-- history.
 
 pub record Demoted (d : Directory) (z : Hand) : Type 0 where
   pub opens : Opened d (z .dir)
@@ -100,9 +102,9 @@ demotedTo e list t1 t2 b1 b2 nS nL a = record {
 }
 
 module _ {d : Directory} (shared : Shared d) where
-  pub chosen : cached d ≡ d .c → {A : Type 0} (P : A → Type 0) {x y : A} {a : Hand} → Turned d a
+  pub by-choice : cached d ≡ d .c → {A : Type 0} (P : A → Type 0) {x y : A} {a : Hand} → Turned d a
       → (1 ≤ ∣ a .dir .t1 ∣ → P x) → (1 ≤ ∣ a .dir .t2 ∣ → P y) → P (if t1AtTarget (a .dir) then x else y)
-  chosen full P {a = a} t from-t1 from-t2 =
+  by-choice full P {a = a} t from-t1 from-t2 =
       by-test P (t1AtTarget (a .dir)) (λ test. from-t1 (omega (arith, leb-true)))
       (λ test. from-t2 (omega (arith, leb-false, still-cached t)))
 
@@ -181,8 +183,10 @@ module _ (d : Directory) where
 
   pub trimmed-b1 : remembered d ≤ d .c + 1 → 1 ≤ ∣ d .b1 ∣ → Trimmed d (withList B1 (dropHead (d .b1)) d)
   trimmed-b1 history some =
-      trimmed (λ count. total-head-dropped count (d .b1)) (λ count. omega arith) (omega (arith, length-head-dropped (d .b1)))
+      trimmed (λ count. total-head-dropped count (d .b1)) (λ count. omega arith)
+      (omega (arith, length-head-dropped (d .b1)))
 
   pub trimmed-b2 : remembered d ≤ d .c + 1 → 1 ≤ ∣ d .b2 ∣ → Trimmed d (withList B2 (dropHead (d .b2)) d)
   trimmed-b2 history some =
-      trimmed (λ count. omega arith) (λ count. total-head-dropped count (d .b2)) (omega (arith, length-head-dropped (d .b2)))
+      trimmed (λ count. omega arith) (λ count. total-head-dropped count (d .b2))
+      (omega (arith, length-head-dropped (d .b2)))
