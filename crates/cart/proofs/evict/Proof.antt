@@ -1,4 +1,5 @@
--- The counts at the start are those of T1 and T2, both passes end at the definition's hands, and the demotion is of the last one.
+-- The counts at the start are those of T1 and T2, and both passes end at the definition's hands.
+-- The demotion is of the last one.
 use borrow.Author.Needs.{needs}
 use mathlib.Core.Path.{_≡_, sym, _∙_}
 use Prim.Native.Nat.{_+_}
@@ -43,7 +44,10 @@ second-pass-requires : tie.Need-second-pass-requires
 second-pass-requires c κs = let p = after-first-pass c .first-pass .ensures .passing in (passing-room p, p)
 
 demote-requires : tie.Need-demote-requires
-demote-requires c κs = let e = after-second-pass c .second-pass .ensures in (passing-room (e .0 .passing), (e .0 .passing, e .1))
+demote-requires c κs =
+    let e = after-second-pass c .second-pass .ensures in
+    let p = e .0 .passing in
+    (passing-room p, (p, e .1))
 
 returns : tie.Need-returns
 unfolding evict

@@ -1,8 +1,8 @@
--- A turn of the loop is one look, and what is left from here is what is left from the start; where the loop ends the look stops.
+-- A turn of the loop is one look, and what is left of the repeat from here is what is left from the start.
 -- The measure is the moves that are left: the accounts bound them, and every look costs one.
 use borrow.Author.Needs.{needs}
 use mathlib.Core.Path.{_≡_, refl, sym, _∙_}
-use mathlib.Core.Bool.{true}
+use mathlib.Core.Bool.{true, false}
 use Prim.Native.Nat.{_+_, _-_}
 use native.Mathlib.Omega.{arith}
 use lib.ListN.{length}
@@ -21,7 +21,8 @@ use Rattle.cart.proofs.first_pass.Tie as tie
 
 abbrev Inv-loop : tie.InvT-loop
 Inv-loop dir₀ now₀ f₀ dir now f =
-    Passing Holds dir now × Underway Holds Cart.firstLook dir₀ now₀ dir now × HeadFlags 1 f dir × (length dir ≡ length dir₀)
+    Passing Holds dir now × Underway Holds Cart.firstLook dir₀ now₀ dir now
+    × HeadFlags 1 f dir × (length dir ≡ length dir₀)
 
 abbrev μ-loop : tie.MeasureT-loop
 μ-loop dir₀ now₀ f₀ dir now f = 2048 - now .hand .moves
@@ -40,7 +41,8 @@ abbrev after-raise : tie.After-struct-known2 Inv-loop μ-loop → tie.After-rais
 after-raise c = c .before .before .before .before
 
 -- T2's head has its bit set.
-set : (c : tie.Then1 Inv-loop μ-loop) (d : Directory) → Holds d (c .before .before .loop .dir) → frontOf (d .t2) .bit ≡ true
+set : (c : tie.Then1 Inv-loop μ-loop) (d : Directory) → Holds d (c .before .before .loop .dir)
+    → frontOf (d .t2) .bit ≡ true
 set c d is = sym (c .before .bit .ensures (frontOf (d .t2)) (c .before .before .loop .inv .2 d is)) ∙ c .if1 .taken
 
 -- A turn of the loop is one look: the move of T2's head to T1's tail, and then "raise q".
@@ -84,11 +86,9 @@ loop-again c =
 returns : tie.Need-returns Inv-loop μ-loop
 returns c =
     let i = c .before .before .loop .inv in
-    record {
-      passing = i .0;
-      ends = ends-here (i .1) (λ h holds.
-          first-stops h (sym (c .before .bit .ensures (frontOf (h .dir .t2)) (i .2 (h .dir) (holds .shown))) ∙ c .if1 .left));
-    }
+    let clear : (d : Directory) → Holds d (c .before .before .loop .dir) → frontOf (d .t2) .bit ≡ false =
+    λ d is. sym (c .before .bit .ensures (frontOf (d .t2)) (i .2 d is)) ∙ c .if1 .left in
+    record { passing = i .0; ends = ends-here (i .1) (λ h holds. first-stops h (clear (h .dir) (holds .shown))) }
 
 pub first-pass-spec : {M : Type 1} → statement M
 first-pass-spec =

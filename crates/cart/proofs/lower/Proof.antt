@@ -9,7 +9,8 @@ use Rattle.cart.proofs.lower.Tie as tie
 returns : tie.Need-returns
 returns c d is =
     let j = c .before .before .before .if1 in
-    lowered d is (j .less) (c .greatest .result) (⊎-elim (λ w. omega arith) (λ w. omega arith) (j .came)) (omega (arith, c .greatest .ensures))
+    lowered d is (j .less) (c .greatest .result) (⊎-elim (λ w. omega arith) (λ w. omega arith) (j .came))
+    (omega (arith, c .greatest .ensures))
 
 pub lower-spec : {M : Type 1} → statement M
 lower-spec =

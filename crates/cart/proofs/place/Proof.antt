@@ -70,12 +70,14 @@ returns-2 c h is short long =
     let t = trimmed .before .before in
     let b = after-come-back (t .before .before) in
     new-page (b .come-back .ensures (h .dir) (newLong _) _ _ is refl refl short long) (t .if2 .taken)
-    (λ same. c .before .before .place-new .ensures (Cart.trim (h .dir)) (trimmed .trim .ensures (h .dir) (is ∙ sym same)))
+    (λ same. let then = trimmed .trim .ensures (h .dir) (is ∙ sym same) in
+    c .before .before .place-new .ensures (Cart.trim (h .dir)) then)
 
 returns-3 : tie.Need-returns-3
 returns-3 c h is short long =
     let b = after-come-back (c .before .before) in
-    from-B1 (b .come-back .ensures (h .dir) (newLong _) _ _ is refl refl short long) (c .before .if1 .left) (c .if2 .left)
+    from-B1 (b .come-back .ensures (h .dir) (newLong _) _ _ is refl refl short long)
+    (c .before .if1 .left) (c .if2 .left)
 
 pub place-spec : {M : Type 1} → statement M
 place-spec =

@@ -1,4 +1,4 @@
--- The words that the test reads are c, the sizes and n_S, so that q is set where the definition sets it, to the same least.
+-- The test reads c, the sizes and n_S, so that q is set where the definition sets it, to the same least.
 use borrow.Author.Needs.{needs}
 use native.Mathlib.Omega.{arith}
 use Rattle.cart.proofs.Words.{raised, not-raised}

@@ -1,4 +1,4 @@
--- A turn of the loop is one look, and what is left from here is what is left from the start; where the loop ends the look stops.
+-- A turn of the loop is one look, and what is left of the repeat from here is what is left from the start.
 -- The measure is the moves that are left: the accounts bound them, and every look costs one.
 use borrow.Author.Needs.{needs}
 use mathlib.Core.Path.{_≡_, refl, sym, _∙_}
@@ -19,7 +19,8 @@ use Rattle.cart.proofs.second_pass.Tie as tie
 
 abbrev Inv-loop : tie.InvT-loop
 Inv-loop dir₀ now₀ f₀ dir now f =
-    Passing Holds dir now × Underway Holds Cart.secondLook dir₀ now₀ dir now × HeadFlags 0 f dir × (length dir ≡ length dir₀)
+    Passing Holds dir now × Underway Holds Cart.secondLook dir₀ now₀ dir now
+    × HeadFlags 0 f dir × (length dir ≡ length dir₀)
 
 abbrev μ-loop : tie.MeasureT-loop
 μ-loop dir₀ now₀ f₀ dir now f = 2048 - now .hand .moves

@@ -1,4 +1,4 @@
--- The sum that the test compares is the definition's, and `oldest` names the history that loses its head, which has one.
+-- The sum that the test compares is the definition's; `oldest` names the history that loses its head, which has one.
 use native.Mathlib.Omega.{arith}
 use borrow.Author.Needs.{needs}
 use Rattle.figures.specs.Words.{decode}
