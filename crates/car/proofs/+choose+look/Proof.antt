@@ -89,27 +89,34 @@ module _ (t : ℕ) where
 
 module _ (t : ℕ) where
   -- The places that are looked back to.
-  abbrev at-start : look-lts.After-start-of (look-calls t) (look-at t) look.Post → look-lts.Start (look-calls t) (look-at t) look.Post
+  abbrev at-start : look-lts.After-start-of (look-calls t) (look-at t) look.Post
+      → look-lts.Start (look-calls t) (look-at t) look.Post
   at-start c = c .before .before .before
 
-  abbrev after-start-of : look-lts.After-bit (look-calls t) (look-at t) look.Post → look-lts.After-start-of (look-calls t) (look-at t) look.Post
+  abbrev after-start-of : look-lts.After-bit (look-calls t) (look-at t) look.Post
+      → look-lts.After-start-of (look-calls t) (look-at t) look.Post
   after-start-of c = c .before .before .before .before
 
-  abbrev bit-set : look-lts.After-cleared (look-calls t) (look-at t) look.Post → look-lts.After-bit (look-calls t) (look-at t) look.Post
+  abbrev bit-set : look-lts.After-cleared (look-calls t) (look-at t) look.Post
+      → look-lts.After-bit (look-calls t) (look-at t) look.Post
   bit-set c = c .before .before .before
 
-  abbrev bit-clear : look-lts.After-demoted (look-calls t) (look-at t) look.Post → look-lts.After-bit (look-calls t) (look-at t) look.Post
+  abbrev bit-clear : look-lts.After-demoted (look-calls t) (look-at t) look.Post
+      → look-lts.After-bit (look-calls t) (look-at t) look.Post
   bit-clear c = c .before .before .before
 
-  abbrev after-move-head : look-lts.After-struct-known2 (look-calls t) (look-at t) look.Post → look-lts.After-move-head (look-calls t) (look-at t) look.Post
+  abbrev after-move-head : look-lts.After-struct-known2 (look-calls t) (look-at t) look.Post
+      → look-lts.After-move-head (look-calls t) (look-at t) look.Post
   after-move-head c = c .before .before .before
 
   -- The chosen clock has a head,
-  head-there : (c : look-lts.Start (look-calls t) (look-at t) look.Post) → 1 ≤ getD (c .args .dir .now) (4 + c .args .i) 0
+  head-there : (c : look-lts.Start (look-calls t) (look-at t) look.Post)
+      → 1 ≤ getD (c .args .dir .now) (4 + c .args .i) 0
   head-there c = let p = c .pre .1 .1 in some-length (p .0) (c .args .i) (p .1 .1) (p .1 .0)
 
   -- whose two words are there.
-  within : (c : look-lts.After-start-of (look-calls t) (look-at t) look.Post) → c .start-of .result + 1 < length (at-start c .args .dir .now)
+  within : (c : look-lts.After-start-of (look-calls t) (look-at t) look.Post)
+      → c .start-of .result + 1 < length (at-start c .args .dir .now)
   within c =
       let s = at-start c in
       omega (arith, head-inside (omega (arith, s .pre .1 .1 .1)) (head-there s) (c .start-of .ensures) (s .pre .1 .0))
@@ -144,7 +151,8 @@ module _ (t : ℕ) where
       omega (arith, r .left, r .cleared-most)
 
   -- A head whose bit is set has moved to T2's tail.
-  looked : (c : look-lts.After-move-head (look-calls t) (look-at t) look.Post) → let a = at-start (after-start-of (bit-set (c .before))) .args in
+  looked : (c : look-lts.After-move-head (look-calls t) (look-at t) look.Post)
+      → let a = at-start (after-start-of (bit-set (c .before))) .args in
       Again (a .dir .now) (a .hand) (c .move-head .last .0)
   looked c =
       let b = bit-set (c .before) in
