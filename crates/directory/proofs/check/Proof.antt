@@ -26,6 +26,12 @@ in-else2 c = c .before .before
 abbrev in-else3 : tie.After-wide → tie.Else3
 in-else3 c = c .before .before
 
+abbrev at-size : tie.Else4 → tie.Else3
+at-size c = c .before .before .before
+
+abbrev at-policy : tie.Else4 → tie.Else2
+at-policy c = at-size c .before .before .before
+
 returns : tie.Need-returns
 returns c = check-short _ (c .if1 .taken)
 
@@ -61,12 +67,6 @@ returns-4 c =
     let s = in-else3 (c .before) in
     let e = in-else2 (s .before) in
     check-length _ (eight e) (policy e) (sized s) (λ is. c .if4 .taken (omega arith))
-
-abbrev at-size : tie.Else4 → tie.Else3
-at-size c = c .before .before .before
-
-abbrev at-policy : tie.Else4 → tie.Else2
-at-policy c = at-size c .before .before .before
 
 exact : (c : tie.Else4) → (let w = w (at-policy c) in ∣ w ∣ ≡ 8 + 4 * size w)
 exact c = omega arith

@@ -1,4 +1,4 @@
--- The answer is whether CAR's rules hold: each failure is one rule that does not, and the count of flag 2 is that of filter L.
+-- Each failure is one of CAR's rules that does not hold; the count of flag 2 is that of filter L.
 use mathlib.Core.Path.{_≡_, refl, sym, _∙_}
 use native.Mathlib.Omega.{arith}
 use Rattle.figures.specs.Entry.{long, total}
@@ -12,15 +12,16 @@ use borrow.Author.Needs.{needs}
 use Rattle.soundness.proofs.car_sound.Statement.{statement}
 use Rattle.soundness.proofs.car_sound.Tie as tie
 
+-- The places that are looked back to.
+abbrev at-start : tie.After-count → tie.Start
+at-start c = c .before .before .before .before .before .before .before .before .before .before .before .before
+
 returns : tie.Need-returns
 unfolding carSound
 returns c = fails _ (λ h. let said = simp reads at h in c .if1 .taken (said .0))
 
-abbrev start : tie.After-count → tie.Start
-start c = c .before .before .before .before .before .before .before .before .before .before .before .before
-
-long-ones : (c : tie.After-count) → c .count .result ≡ total long (listed (decode (start c .args .dir .now)))
-long-ones c = told (all-stand (start c .pre)) _ _ (c .count .ensures .1) (omega arith) (omega arith)
+long-ones : (c : tie.After-count) → c .count .result ≡ total long (listed (decode (at-start c .args .dir .now)))
+long-ones c = told (all-stand (at-start c .pre)) _ _ (c .count .ensures .1) (omega arith) (omega arith)
 
 returns-2 : tie.Need-returns-2
 unfolding carSound

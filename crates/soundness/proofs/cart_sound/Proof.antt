@@ -1,4 +1,4 @@
--- The answer is whether CART's rules hold: a list is L throughout where as many entries are L as it has.
+-- Each failure is one of CART's rules that does not hold; a list is L throughout where as many entries are L as it has.
 use mathlib.Core.Path.{_≡_, refl, sym, _∙_}
 use mathlib.Core.List.{_++_}
 use native.Mathlib.Omega.{arith}
@@ -20,32 +20,32 @@ after-count c = c .before .before .before
 abbrev after-count2 : tie.After-count3 → tie.After-count2
 after-count2 c = c .before .before .before
 
+abbrev at-start : tie.After-count → tie.Start
+at-start c = c .before .before .before .before .before .before .before .before .before .before .before .before .before
+
 returns : tie.Need-returns
 unfolding cartSound
 returns c = fails _ (λ h. let said = simp reads at h in omega arith)
 
-abbrev start : tie.After-count → tie.Start
-start c = c .before .before .before .before .before .before .before .before .before .before .before .before .before
-
-long-in-t2 : (c : tie.After-count) → c .count .result ≡ total long (decode (start c .args .dir .now) .t2)
-long-in-t2 c = told (t2-stands (start c .pre)) _ _ (c .count .ensures .1) (omega arith) (omega arith)
+long-in-t2 : (c : tie.After-count) → c .count .result ≡ total long (decode (at-start c .args .dir .now) .t2)
+long-in-t2 c = told (t2-stands (at-start c .pre)) _ _ (c .count .ensures .1) (omega arith) (omega arith)
 
 returns-2 : tie.Need-returns-2
 unfolding cartSound
 returns-2 c =
-    let s = start (c .before .before) in
+    let s = at-start (c .before .before) in
     let d = decode (s .args .dir .now) in
     let all = filters (t2-stands (s .pre)) in
     let t2 = long-in-t2 (c .before .before) in
     fails _ (λ h. let said = simp reads at h in c .if2 .taken (omega (arith, total-append short (d .t2) (d .b2))))
 
-long-in-b2 : (c : tie.After-count2) → c .count2 .result ≡ total long (decode (start (after-count c) .args .dir .now) .b2)
-long-in-b2 c = told (b2-stands (start (after-count c) .pre)) _ _ (c .count2 .ensures .1) (omega arith) (omega arith)
+long-in-b2 : (c : tie.After-count2) → c .count2 .result ≡ total long (decode (at-start (after-count c) .args .dir .now) .b2)
+long-in-b2 c = told (b2-stands (at-start (after-count c) .pre)) _ _ (c .count2 .ensures .1) (omega arith) (omega arith)
 
 returns-3 : tie.Need-returns-3
 unfolding cartSound
 returns-3 c =
-    let s = start (after-count (c .before .before)) in
+    let s = at-start (after-count (c .before .before)) in
     let d = decode (s .args .dir .now) in
     let all = filters (b2-stands (s .pre)) in
     let b2 = long-in-b2 (c .before .before) in
@@ -54,7 +54,7 @@ returns-3 c =
 returns-4 : tie.Need-returns-4
 unfolding cartSound
 returns-4 c =
-    let s = start (after-count (after-count2 c)) in
+    let s = at-start (after-count (after-count2 c)) in
     let d = decode (s .args .dir .now) in
     let t2 = long-in-t2 (after-count (after-count2 c)) in
     let b2 = long-in-b2 (after-count2 c) in

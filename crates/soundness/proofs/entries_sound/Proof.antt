@@ -1,4 +1,4 @@
--- The answer is whether the entries are sound: pages, then the history's bits, then the policy's own rules.
+-- The pages decide, then the history's bits, then the policy's own rules.
 use mathlib.Core.Path.{_≡_, sym, _∙_}
 use mathlib.Core.Bool.{true}
 use mathlib.Core.List.{_++_}
@@ -17,14 +17,14 @@ use Rattle.soundness.proofs.entries_sound.Tie as tie
 abbrev after-pages-differ : tie.After-count → tie.After-pages-differ
 after-pages-differ c = c .before .before
 
-abbrev start : tie.After-pages-differ → tie.Start
-start c = c .before .before .before .before .before .before .before .before .before .before
+abbrev at-start : tie.After-pages-differ → tie.Start
+at-start c = c .before .before .before .before .before .before .before .before .before .before
 
 abbrev d : tie.After-pages-differ → Directory
-d c = decode (start c .args .dir .now)
+d c = decode (at-start c .args .dir .now)
 
 differs : (c : tie.After-pages-differ) → c .pages-differ .result ≡ differ (listed (d c))
-differs c = told (all-stand (start c .pre)) _ _ (c .pages-differ .ensures) (omega arith) (omega arith)
+differs c = told (all-stand (at-start c .pre)) _ _ (c .pages-differ .ensures) (omega arith) (omega arith)
 
 returns : tie.Need-returns
 returns c = rw (sym (differs (c .before)) ∙ not-true _ (c .if1 .taken))
@@ -33,7 +33,9 @@ all-differ : (c : tie.Else1) → differ (listed (d (c .before))) ≡ true
 all-differ c = sym (differs (c .before)) ∙ not-false _ (c .if1 .left)
 
 bits-set : (c : tie.After-count) → (let d = d (after-pages-differ c) in c .count .result ≡ total bits (d .b1 ++ d .b2))
-bits-set c = told (history-stands (start (after-pages-differ c) .pre)) _ _ (c .count .ensures .1) (omega arith) (omega arith)
+bits-set c =
+    let histories = history-stands (at-start (after-pages-differ c) .pre) in
+    told histories _ _ (c .count .ensures .1) (omega arith) (omega arith)
 
 returns-2 : tie.Need-returns-2
 returns-2 c = rw (all-differ (c .before .before), ne-eqb _ 0 (λ none. c .if2 .taken (bits-set (c .before) ∙ none)))

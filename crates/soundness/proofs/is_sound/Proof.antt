@@ -1,4 +1,4 @@
--- The answer is whether the words are sound: sizes, flags and zeros in order make them a directory's, and then the entries decide.
+-- Sizes, flags and zeros in order make the words a directory's, and then the entries decide.
 use mathlib.Core.Path.{_≡_, sym, _∙_}
 use mathlib.Core.Bool.{true}
 use mathlib.Core.List.{List}
@@ -23,6 +23,9 @@ after-wide4 c = c .before .before
 abbrev in-else2 : tie.Else3 → tie.Else2
 in-else2 c = c .before .before
 
+abbrev at-start : tie.After-wide4 → tie.Start
+at-start c = c .before .before .before .before .before .before .before .before .before .before .before
+
 returns : tie.Need-returns
 returns c = denied (sound-sizes _) (sym (c .before .sizes-fit .ensures) ∙ not-true _ (c .if1 .taken))
 
@@ -32,11 +35,8 @@ add-cached c = let known = c .before .shared-slice-known3 .given in omega (arith
 add-all : tie.Need-add-all
 add-all c = let known = c .before .shared-slice-known5 .given in omega (arith, known 6, known 7)
 
-abbrev start : tie.After-wide4 → tie.Start
-start c = c .before .before .before .before .before .before .before .before .before .before .before
-
 abbrev w : tie.After-wide4 → List ℕ
-w c = start c .args .dir .now
+w c = at-start c .args .dir .now
 
 sizes : (c : tie.After-wide4) → sizesFit (w c) ≡ true
 sizes c = let e = in-else1 c in sym (e .before .sizes-fit .ensures) ∙ not-false _ (e .if1 .left)
@@ -78,13 +78,13 @@ zeros c = sym (zeros-are (c .before)) ∙ not-false _ (c .if3 .left)
 entries-sound-requires : tie.Need-entries-sound-requires
 entries-sound-requires c κs =
     let e = in-else2 c in
-    held (start (after-wide4 e) .pre) (sizes (after-wide4 e)) (flags e) (zeros c)
+    held (at-start (after-wide4 e) .pre) (sizes (after-wide4 e)) (flags e) (zeros c)
 
 returns-4 : tie.Need-returns-4
 returns-4 c =
     let e = in-else2 (c .before) in
     c .entries-sound .ensures
-    ∙ sound-entries (start (after-wide4 e) .pre) (sizes (after-wide4 e)) (flags e) (zeros (c .before))
+    ∙ sound-entries (at-start (after-wide4 e) .pre) (sizes (after-wide4 e)) (flags e) (zeros (c .before))
 
 pub is-sound-spec : {M : Type 1} → statement M
 is-sound-spec =

@@ -1,4 +1,4 @@
--- The answer is whether the sizes fit: a failure is one of the rules that does not hold; the sums are of numbers below 2 ^ 32.
+-- Each failure is one of the rules of sizes that does not hold; the sums are of numbers below 2 ^ 32.
 use mathlib.Core.Path.{refl, sym}
 use native.Mathlib.Omega.{arith}
 use borrow.Author.Tests.{eqb-true}

@@ -20,8 +20,8 @@ after-wide c = c .before .before .before
 abbrev after-wide2 : tie.After-lowered → tie.After-wide2
 after-wide2 c = c .before .before .before
 
-abbrev start : tie.After-find → tie.Start
-start f = f .before .before .before
+abbrev at-start : tie.After-find → tie.Start
+at-start f = f .before .before .before
 
 abbrev first : tie.After-wide → tie.After-find
 first c = c .before .before
@@ -36,15 +36,15 @@ come-back-requires : tie.Need-come-back-requires
 come-back-requires c κs =
     let r = c .before in
     let f = first (after-wide r) in
-    let w = start f .args .dir .now in
+    let w = at-start f .args .dir .now in
     let same = length-with-p w (r .raised .result) 2 in
-    (room-with-p _ (start f .pre .0 .room), (omega arith, omega arith, omega arith, omega arith))
+    (room-with-p _ (at-start f .pre .0 .room), (omega arith, omega arith, omega arith, omega arith))
 
 same-length : tie.Need-same-length
 same-length c =
     let b = c .before .before in
     let r = b .before .before in
-    let w = start (first (after-wide r)) .args .dir .now in
+    let w = at-start (first (after-wide r)) .args .dir .now in
     b .come-back .kept .0 ∙ length-set w 2 (r .raised .result)
 
 returns : tie.Need-returns
@@ -53,7 +53,7 @@ returns c d e m n is page new b1 b2 =
     let r = b .before .before in
     let t = r .before .before in
     let f = first (t .before) in
-    let a = start f .args in
+    let a = at-start f .args in
     let found = f .find .ensures in
     let target = with-p d is (r .raised .ensures d is ∙ ap (λ (k : ℕ). raisedTarget k d) b1) in
     from-b1
@@ -64,15 +64,15 @@ come-back-requires-2 : tie.Need-come-back-requires-2
 come-back-requires-2 c κs =
     let r = c .before in
     let f = first (before-second (second (after-wide2 r))) in
-    let w = start f .args .dir .now in
+    let w = at-start f .args .dir .now in
     let same = length-with-p w (r .lowered .result) 3 in
-    (room-with-p _ (start f .pre .0 .room), (omega arith, omega arith, omega arith, omega arith))
+    (room-with-p _ (at-start f .pre .0 .room), (omega arith, omega arith, omega arith, omega arith))
 
 same-length-2 : tie.Need-same-length-2
 same-length-2 c =
     let b = c .before .before in
     let r = b .before .before in
-    let w = start (first (before-second (second (after-wide2 r)))) .args .dir .now in
+    let w = at-start (first (before-second (second (after-wide2 r)))) .args .dir .now in
     b .come-back2 .kept .0 ∙ length-set w 2 (r .lowered .result)
 
 returns-2 : tie.Need-returns-2
@@ -82,7 +82,7 @@ returns-2 c d e m n is page new b1 b2 =
     let t = r .before .before in
     let g = second (t .before) in
     let f = first (before-second g) in
-    let a = start f .args in
+    let a = at-start f .args in
     let found = g .find2 .ensures in
     let target = with-p d is (r .lowered .ensures d is ∙ ap (λ (k : ℕ). loweredTarget k d) b2) in
     from-b2
@@ -94,7 +94,7 @@ returns-3 : tie.Need-returns-3
 returns-3 c d e m n is page new b1 b2 =
     let g = second (c .before) in
     let f = first (before-second g) in
-    let a = start f .args in
+    let a = at-start f .args in
     is-new
     (found-lacks d (a .dir .now) is 2 (omega arith) (a .page) _ (f .find .ensures) (omega (arith, g .before .before .if1 .left)))
     (found-lacks d (a .dir .now) is 3 (omega arith) (a .page) _ (g .find2 .ensures) (omega arith))
