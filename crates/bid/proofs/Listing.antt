@@ -144,7 +144,8 @@ module _ (s : List ℕ) (start : ℕ) (w : List ℕ) (at n : ℕ) (now : List �
       let all : h .written ≡ pages = sym (append-nil (h .written)) ∙ same in
       h .now-is ∙ ap (λ (m : ℕ). h .written ++ drop m w) (sym (h .as-many)) ∙ ap (λ l. over l w) all
 
-  pub never-wrong : (number line : ℕ) → pagesFrom n (lines (drop at s)) ≡ refusedAt number line → PagesFilled s start w now
+  pub never-wrong : (number line : ℕ) → pagesFrom n (lines (drop at s)) ≡ refusedAt number line
+      → PagesFilled s start w now
   never-wrong number line wrong pages is =
       let clash = sym is ∙ h .others-follow ∙ ap (behind (h .written)) wrong in
       let never : _≡_ {A = ℕ} 0 1 = cc in

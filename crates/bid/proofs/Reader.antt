@@ -1,18 +1,17 @@
 -- The sheet by its lines' answers, in order: the first that is wrong decides; after three good ones the page lines do.
-use mathlib.Core.Path.{_≡_, refl, sym, ap, subst, _∙_}
-use mathlib.Core.Bool.{Bool}
+use mathlib.Core.Path.{_≡_, refl, sym, ap, _∙_}
 use mathlib.Core.List.{List}
 use Prim.Native.Nat.{ℕ, _≤_, _<_}
 use native.Mathlib.Omega.{arith}
 use lib.ListN.{drop}
+use borrow.Author.Needs.{needs}
 use borrow.Author.Tests.{lt-ltb, le-ltb}
-use Rattle.terms.specs.Choice.{if_then_else_, ∣_∣}
-use Rattle.terms.specs.Refusals.{bufferTooShort, sheetTooLong}
+use Rattle.terms.specs.Choice.{∣_∣}
 use Rattle.sheets.specs.Lines as Lines
 use Rattle.sheets.specs.Lines.{Lines, lines}
 use Rattle.sheets.specs.Bid.{Meaning, refused, Pages, listed, refusedAt, policyLine, sizeLine, costLine}
 use Rattle.sheets.specs.Bid.{pagesFrom, withPages, afterLine, inOrder, meaning}
-use Rattle.sheets.specs.Refusals.{over, Read, answer, onRead}
+use Rattle.sheets.specs.Refusals.{over, answer, onRead}
 use Rattle.bid.specs.Answers.{numberOf, told, ReadsLine, sizeOf}
 use Rattle.bid.specs.Promises.{refusedBid, ReadAs}
 use Rattle.bid.specs.declared.Bid.{Bid}
@@ -93,15 +92,7 @@ module _ {s : List ℕ} {r₁ : Reading} (first : ReadsLine s 0 (policyLine (lin
 
 pub answers-refusal : {m : Meaning} {number line : ℕ} {w : List ℕ} {r : Bid} → m ≡ refused number line
     → r ≡ refusedBid number line → ReadAs (answer m w) r w
-answers-refusal is so = record {
-  number-is = rw (so, is) refl;
-  line-is = rw (so, is) refl;
-  policy-is = rw (so, is) refl;
-  c-is = rw (so, is) refl;
-  cost-is = rw (so, is) refl;
-  count-is = rw (so, is) refl;
-  words-are = rw is refl;
-}
+answers-refusal is so = rw (is, so) (search needs)
 
 pub answers-wrong-line : {m : Meaning} {number line n : ℕ} {w : List ℕ} {r : Bid} → m ≡ refused number line
     → n ≡ number → r ≡ refusedBid n line → ReadAs (answer m w) r w
@@ -110,46 +101,32 @@ answers-wrong-line {line = line} is same so = answers-refusal is (so ∙ ap (λ 
 pub answers-bid : {m : Meaning} {policy c cost count : ℕ} {ps : Pages} {w w′ : List ℕ} → m ≡ withPages policy c cost ps
     → PagesCounted ps count → ((pages : List ℕ) → ps ≡ listed pages → w′ ≡ over pages w)
     → ReadAs (answer m w) (record { number = 0; line = 0; policy = policy; c = c; cost = cost; count = count }) w′
-answers-bid {policy} {c} {cost} is counted filled =
-    let whole = is ∙ ap (withPages policy c cost) (counted .is-listed) in
-    record {
-      number-is = rw whole refl;
-      line-is = rw whole refl;
-      policy-is = rw whole refl;
-      c-is = rw whole refl;
-      cost-is = rw whole refl;
-      count-is = rw whole (counted .as-many);
-      words-are = rw whole (filled (counted .pages) (counted .is-listed));
-    }
+answers-bid is counted filled = rw (is, counted .is-listed) (record {
+  number-is = refl;
+  line-is = refl;
+  policy-is = refl;
+  c-is = refl;
+  cost-is = refl;
+  count-is = counted .as-many;
+  words-are = filled (counted .pages) (counted .is-listed);
+})
 
 -- THE REFUSALS BEFORE THE LINES
 
 module _ (s w : List ℕ) where
-  -- The answer by whether the buffer is too short, and the meaning by whether the sheet is too long.
-  abbrev byBuffer : Bool → Read
-  byBuffer short = if short then answer (refused bufferTooShort 0) w else answer (meaning s) w
-
-  abbrev byLength : Bool → Meaning
-  byLength long = if long then refused sheetTooLong 0 else inOrder (lines s)
-
   pub read-by-meaning : 1000 ≤ ∣ w ∣ → onRead s w ≡ answer (meaning s) w
   unfolding onRead
-  read-by-meaning room = ap byBuffer (le-ltb _ _ room)
+  read-by-meaning room = rw (le-ltb ∣ w ∣ 1000 room)
 
   pub short-buffer : {r : Bid} → ∣ w ∣ < 1000 → r ≡ refusedBid 6 0 → ReadAs (onRead s w) r w
   unfolding onRead
-  short-buffer {r} short so =
-      subst (λ a. ReadAs a r w) (ap byBuffer (sym (lt-ltb _ _ short)))
-      (answers-refusal {m = refused bufferTooShort 0} refl so)
+  short-buffer short so = rw (lt-ltb ∣ w ∣ 1000 short, so) (search needs)
 
   pub long-sheet : {r : Bid} → 1000 ≤ ∣ w ∣ → 16000 < ∣ s ∣ → r ≡ refusedBid 7 0 → ReadAs (onRead s w) r w
   unfolding meaning
-  long-sheet {r} room long so =
-      subst (λ a. ReadAs a r w) (sym (read-by-meaning room)) (answers-refusal (ap byLength (lt-ltb _ _ long)) so)
+  long-sheet room long so = rw (read-by-meaning room, lt-ltb 16000 ∣ s ∣ long, so) (search needs)
 
   pub by-lines : {r : Bid} {w′ : List ℕ} → 1000 ≤ ∣ w ∣ → ∣ s ∣ ≤ 16000 → ReadAs (answer (inOrder (lines s)) w) r w′
       → ReadAs (onRead s w) r w′
   unfolding meaning
-  by-lines {r} {w′} room short h =
-      subst (λ a. ReadAs a r w′)
-      (sym (read-by-meaning room ∙ ap (λ (long : Bool). answer (byLength long) w) (le-ltb _ _ short))) h
+  by-lines room short h = rw (read-by-meaning room, le-ltb 16000 ∣ s ∣ short) h

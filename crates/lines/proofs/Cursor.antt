@@ -1,5 +1,5 @@
 -- What the cursor's answer says of the lines from its place on: a closed line and its end, or none that is closed.
-use mathlib.Core.Path.{_≡_, refl, sym, ap, subst, _∙_}
+use mathlib.Core.Path.{_≡_, refl, ap, subst, _∙_}
 use mathlib.Core.Bool.{Bool, true, false}
 use mathlib.Core.List.{List}
 use Prim.Native.Nat.{ℕ, _+_, _-_, _≤_, _<_}
@@ -8,7 +8,8 @@ use lib.ListN.{take, drop, length-drop, drop-of-length-le}
 use lib.Seq.{take-all, drop-drop}
 use lib.Dec.{ltb}
 use borrow.Author.Tests.{lt-ltb, le-ltb, ltb-true, ltb-false}
-use Rattle.terms.specs.Choice.{if_then_else_, ∣_∣}
+use Rattle.terms.specs.Choice.{∣_∣}
+use Rattle.terms.proofs.Choice.{by-test}
 use Rattle.bytes.specs.Bytes.{slice, indexOf}
 use Rattle.text.proofs.Text.{drop-take}
 use Rattle.sheets.specs.Lines.{end, unclosed, line, lineFeed, lines}
@@ -42,14 +43,11 @@ module _ (s : List ℕ) (at : ℕ) where
   abbrev far : ℕ
   far = indexOf lineFeed (drop at s)
 
-  abbrev closedIf : Bool → Line
-  closedIf t = if t then Closed (at + far) else Missing
-
   pub is-closed : at + far < ∣ s ∣ → Closed (at + far) ≡ lineAt s at
-  is-closed h = ap closedIf (sym (lt-ltb _ _ h))
+  is-closed h = rw (lt-ltb (at + far) ∣ s ∣ h)
 
   pub is-missing : ∣ s ∣ ≤ at + far → Missing ≡ lineAt s at
-  is-missing h = ap closedIf (sym (le-ltb _ _ h))
+  is-missing h = rw (le-ltb (at + far) ∣ s ∣ h)
 
   closes : at + far < ∣ s ∣ → ClosedAt s at (at + far)
   closes h =
@@ -76,15 +74,13 @@ module _ (s : List ℕ) (at : ℕ) where
           let past = ltb-false at ∣ s ∣ test in ended past (ap lines (drop-of-length-le s {i = at} past))
 
   pub closed-line : (stop : ℕ) → lineAt s at ≡ Closed stop → ClosedAt s at stop
-  closed-line stop = by (ltb (at + far) ∣ s ∣) refl
-    where
-      by : (t : Bool) → ltb (at + far) ∣ s ∣ ≡ t → closedIf t ≡ Closed stop → ClosedAt s at stop
-      by true test is = subst (ClosedAt s at) (cc) (closes (ltb-true _ _ test))
-      by false test is = let never : _≡_ {A = ℕ} 0 1 = cc in absurd (omega arith)
+  closed-line stop =
+      by-test (λ (l : Line). l ≡ Closed stop → ClosedAt s at stop) (ltb (at + far) ∣ s ∣)
+      (λ test is. subst (ClosedAt s at) (cc) (closes (ltb-true _ _ test)))
+      (λ test is. let never : _≡_ {A = ℕ} 0 1 = cc in absurd (omega arith))
 
   pub missing-line : lineAt s at ≡ Missing → MissingAt s at
-  missing-line = by (ltb (at + far) ∣ s ∣) refl
-    where
-      by : (t : Bool) → ltb (at + far) ∣ s ∣ ≡ t → closedIf t ≡ Missing → MissingAt s at
-      by true test is = let never : _≡_ {A = ℕ} 0 1 = cc in absurd (omega arith)
-      by false test is = lacks (ltb-false _ _ test)
+  missing-line =
+      by-test (λ (l : Line). l ≡ Missing → MissingAt s at) (ltb (at + far) ∣ s ∣)
+      (λ test is. let never : _≡_ {A = ℕ} 0 1 = cc in absurd (omega arith))
+      (λ test is. lacks (ltb-false _ _ test))

@@ -1,18 +1,17 @@
 -- Where the value of a line stands: in the line at a place, in a line further on, or nowhere.
-use mathlib.Core.Path.{_≡_, refl, sym, ap, subst, _∙_}
-use mathlib.Core.Bool.{Bool}
+use mathlib.Core.Path.{_≡_, refl, ap, _∙_}
 use mathlib.Core.List.{List}
 use Prim.Native.Nat.{ℕ, zero, suc, _+_, _-_, _≤_, _<_}
 use native.Mathlib.Omega.{arith}
 use lib.ListN.{take, drop}
 use borrow.Author.Tests.{lt-ltb, le-ltb}
-use Rattle.terms.specs.Choice.{if_then_else_, ∣_∣}
+use Rattle.terms.specs.Choice.{∣_∣}
 use Rattle.terms.specs.Refusals.{accepted, sheetTooLong, noSuchLine}
 use Rattle.bytes.specs.Bytes.{indexOf}
 use Rattle.text.proofs.Text.{part-length}
 use Rattle.sheets.specs.Lines.{lines}
 use Rattle.sheets.specs.LookUp.{Place, between, nowhere, equalsSign, valueIn, valueOf}
-use Rattle.sheets.specs.Refusals.{Found, foundAt, onLookUp}
+use Rattle.sheets.specs.Refusals.{foundAt, onLookUp}
 use Rattle.lines.specs.Cursor.{SpanOf, refusal}
 use Rattle.lines.specs.declared.Span.{Span}
 use Rattle.lines.proofs.Cursor.{ClosedAt, MissingAt, ended, not-closed}
@@ -24,21 +23,18 @@ module _ (s : List ℕ) (at stop : ℕ) (from : at ≤ stop) (inside : stop ≤ 
   abbrev bytesOf : List ℕ
   bytesOf = take (stop - at) (drop at s)
 
-  abbrev placed : Bool → Place
-  placed t = if t then between (at + indexOf equalsSign bytesOf + 1) (at + ∣ bytesOf ∣) else nowhere
-
   module _ (n : ℕ) (first : n ≡ at + indexOf equalsSign bytesOf) where
     pub value-here : n < stop → valueIn at bytesOf ≡ between (n + 1) stop
     value-here h =
         let long = part-length at stop s inside in
         let width : at + ∣ bytesOf ∣ ≡ stop = omega arith in
         let before : indexOf equalsSign bytesOf < ∣ bytesOf ∣ = omega arith in
-        ap placed (lt-ltb _ _ before) ∙ rw (← first, width) refl
+        rw (lt-ltb (indexOf equalsSign bytesOf) ∣ bytesOf ∣ before, ← first, width)
 
     pub no-value : stop ≤ n → valueIn at bytesOf ≡ nowhere
     no-value h =
         let past : ∣ bytesOf ∣ ≤ indexOf equalsSign bytesOf = omega (arith, part-length at stop s inside) in
-        ap placed (le-ltb _ _ past)
+        rw (le-ltb (indexOf equalsSign bytesOf) ∣ bytesOf ∣ past)
 
 -- THE LINES FROM A PLACE ON
 
@@ -82,17 +78,11 @@ module _ (s : List ℕ) {p : Place} where
 
 -- "Look-up: 7, then 8"
 module _ (s : List ℕ) (line : ℕ) where
-  abbrev looked : Bool → Found
-  looked t = if t then record { number = sheetTooLong; start = 0; stop = 0 } else foundAt (valueFrom s 0 line)
-
   pub too-long : {r : Span} → 16000 < ∣ s ∣ → r ≡ refusal sheetTooLong → SpanOf s (onLookUp s line) r
   unfolding onLookUp
-  too-long h refused =
-      let past = sym (lt-ltb _ _ h) in
-      subst (SpanOf s (onLookUp s line)) (sym refused)
-      (subst (λ (t : Bool). SpanOf s (looked t) (refusal sheetTooLong)) past (refused-span s sheetTooLong))
+  too-long h refused = rw (lt-ltb 16000 ∣ s ∣ h, refused) (refused-span s sheetTooLong)
 
   pub looked-up : {p : Place} {r : Span} → ∣ s ∣ ≤ 16000 → valueFrom s 0 line ≡ p → SpanOf s (foundAt p) r
       → SpanOf s (onLookUp s line) r
   unfolding onLookUp
-  looked-up {p} {r} h is span = subst (λ f. SpanOf s f r) (sym (ap looked (le-ltb _ _ h) ∙ ap foundAt is)) span
+  looked-up h is span = rw (le-ltb 16000 ∣ s ∣ h, is) span

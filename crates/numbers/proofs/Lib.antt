@@ -1,2 +1,4 @@
--- What the proofs of this crate's functions share; laws about digits are those of the crate sheets.
+-- What `if !answer` tells of the test that a function answered.
+--
+-- Not here: digits, what they are worth, and the forms of numbers (`Digits` of the crate sheets).
 pub mod Asked

@@ -20,8 +20,8 @@ module _ (request page kind evicted list moves : ℕ) where
   unfolding requestLine
   request-length = simp length-append
 
-  pub request-fits : request < 2 ^ 32 → page < 2 ^ 32 → kind < 2 ^ 32 → evicted < 2 ^ 32 → list < 2 ^ 32 → moves < 2 ^ 32
-      → ∣ requestLine request page kind evicted list moves ∣ ≤ 256
+  pub request-fits : request < 2 ^ 32 → page < 2 ^ 32 → kind < 2 ^ 32 → evicted < 2 ^ 32 → list < 2 ^ 32
+      → moves < 2 ^ 32 → ∣ requestLine request page kind evicted list moves ∣ ≤ 256
   request-fits request-is page-is kind-is evicted-is list-is moves-is = omega (
     arith,
     request-length,

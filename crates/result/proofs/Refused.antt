@@ -18,29 +18,6 @@ use Rattle.result.proofs.Putting.{put-over}
 abbrev pub answered : ℕ → ℕ → Written
 answered number count = record { number = number; count = count }
 
-module _ (o : Outcome) (out : List ℕ) where
-  pub sheet-policy : knownPolicy (o .policy) ≡ false → WroteSheet o out (answered 1 0) out
-  unfolding onWrite
-  sheet-policy not = record { number-is = rw not; count-is = rw not; bytes-are = rw not }
-
-  module _ (known : knownPolicy (o .policy) ≡ true) where
-    pub sheet-short : ∣ out ∣ < 256 → WroteSheet o out (answered 6 0) out
-    unfolding onWrite
-    sheet-short less =
-        let test = lt-ltb ∣ out ∣ 256 less in
-        record { number-is = rw (known, test); count-is = rw (known, test); bytes-are = rw (known, test) }
-
-    pub sheet-written : {n : ℕ} {out′ : List ℕ} → 256 ≤ ∣ out ∣ → Put out 0 (resultSheet (defined o)) out′ n
-        → WroteSheet o out (answered 0 n) out′
-    unfolding onWrite
-    sheet-written enough put =
-        let test = le-ltb ∣ out ∣ 256 enough in
-        record {
-          number-is = rw (known, test);
-          count-is = rw (known, test) (put .next-is ∙ zero-add ∣ resultSheet (defined o) ∣);
-          bytes-are = rw (known, test) (put-over put);
-        }
-
 module _ (text out : List ℕ) where
   pub text-short : ∣ out ∣ < 256 → Wrote (onWriteText text out) (answered 6 0) out
   unfolding onWriteText
@@ -58,3 +35,21 @@ module _ (text out : List ℕ) where
         count-is = rw test (put .next-is ∙ zero-add ∣ text ∣);
         bytes-are = rw test (put-over put);
       }
+
+module _ (o : Outcome) (out : List ℕ) where
+  pub sheet-policy : knownPolicy (o .policy) ≡ false → WroteSheet o out (answered 1 0) out
+  unfolding onWrite
+  sheet-policy not = record { number-is = rw not; count-is = rw not; bytes-are = rw not }
+
+  -- Of a known policy the sheet is written as any text is.
+  pub sheet-as-text : knownPolicy (o .policy) ≡ true → onWrite (defined o) out ≡ onWriteText (resultSheet (defined o)) out
+  unfolding onWrite onWriteText
+  sheet-as-text known = rw known
+
+  module _ (known : knownPolicy (o .policy) ≡ true) where
+    pub sheet-short : ∣ out ∣ < 256 → WroteSheet o out (answered 6 0) out
+    sheet-short less = rw (sheet-as-text known) (text-short (resultSheet (defined o)) out less)
+
+    pub sheet-written : {n : ℕ} {out′ : List ℕ} → 256 ≤ ∣ out ∣ → Put out 0 (resultSheet (defined o)) out′ n
+        → WroteSheet o out (answered 0 n) out′
+    sheet-written enough put = rw (sheet-as-text known) (text-written (resultSheet (defined o)) out enough put)

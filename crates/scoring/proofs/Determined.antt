@@ -21,7 +21,8 @@ answers-determined d {r = r} {s} a b =
       a .out-is ∙ sym (b .out-is),
     )
 
-module _ (sheet pages dir answers out : List ℕ) {pages₁ dir₁ answers₁ out₁ pages₂ dir₂ answers₂ out₂ : List ℕ} {r s : Scored} where
+module _ (sheet pages dir answers out : List ℕ) {r s : Scored}
+    {pages₁ dir₁ answers₁ out₁ pages₂ dir₂ answers₂ out₂ : List ℕ} where
   pub score-determined : SheetScored sheet pages dir answers out r pages₁ dir₁ answers₁ out₁
       → SheetScored sheet pages dir answers out s pages₂ dir₂ answers₂ out₂
       → (r ≡ s) × (pages₁ ≡ pages₂) × (dir₁ ≡ dir₂) × (answers₁ ≡ answers₂) × (out₁ ≡ out₂)

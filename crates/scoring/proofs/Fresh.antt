@@ -2,11 +2,12 @@
 use mathlib.Core.Path.{_≡_, refl, sym, ap, _∙_}
 use mathlib.Core.Bool.{true}
 use mathlib.Core.List.{List}
-use Prim.Native.Nat.{ℕ, _+_, _*_, _≤_}
+use Prim.Native.Nat.{ℕ, _+_, _*_}
 use native.Mathlib.Omega.{arith}
-use borrow.Author.Tests.{le-leb, le-ltb, eq-eqb}
+use borrow.Author.Tests.{le-ltb, eq-eqb}
 use Rattle.terms.specs.Choice.{∣_∣}
 use Rattle.terms.specs.Limits.{knownSize}
+use Rattle.terms.proofs.Tests.{reads}
 use Rattle.figures.specs.Directory.{Directory, fresh}
 use Rattle.figures.specs.Words.{encode}
 use Rattle.figures.specs.Refusals as Refusals
@@ -19,15 +20,12 @@ use Rattle.directory.specs.Promises.{Freshened, Replayed}
 use Rattle.directory.proofs.Refused.{check-sound}
 use Rattle.scoring.specs.Ready.{Fitting, RanFresh}
 
-known-size : (c : ℕ) → 1 ≤ c → c ≤ 1024 → knownSize c ≡ true
-known-size c least most = rw (le-leb 1 c least, le-leb c 1024 most) refl
-
 module _ {policy c : ℕ} {w trace answers : List ℕ} (h : Fitting policy c w trace answers) where
   abbrev d : Directory
   d = fresh policy c
 
   size-known : knownSize c ≡ true
-  size-known = known-size c (h .size-known .0) (h .size-known .1)
+  size-known = simp reads (h .size-known)
 
   pub fresh-accepted : onFresh policy c w .words ≡ encode (fresh policy c)
   unfolding onFresh freshNumber

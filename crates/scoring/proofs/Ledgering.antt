@@ -57,7 +57,8 @@ module _ (text pages dir answers out : List ℕ) {r : Scored} {pages′ dir′ a
   with-text (bid b) text₂ out₂ a over = search (over-fits over)
   with-text (refused number line) text₂ out₂ a over = search (over-fits over)
 
-module _ (s pages dir answers out : List ℕ) (lent : Lent (256 * 1001) pages dir answers out) {r : Scored} {pages′ dir′ answers′ part : List ℕ}
+module _ (s pages dir answers out : List ℕ) (lent : Lent (256 * 1001) pages dir answers out)
+    {r : Scored} {pages′ dir′ answers′ part : List ℕ}
     (h : AnsweredWith (scored s) s pages dir answers (take 256 out) r pages′ dir′ answers′ part)
     (same : ∣ part ∣ ≡ ∣ take 256 out ∣) where
   sheet-served : LeftForLedger (meaning s) (scored s) (take 256 out) r pages′ answers′ part
@@ -79,7 +80,8 @@ module _ (s pages dir answers out : List ℕ) (lent : Lent (256 * 1001) pages di
       }
 
   pub sheet-ledgered : {out′ : List ℕ} {next : ℕ}
-      → Put (part ++ drop 256 out) (r .count) (ledgerLines 1 (take (r .requests) pages′) (take (4 * r .requests) answers′)) out′ next
+      → Put (part ++ drop 256 out) (r .count)
+      (ledgerLines 1 (take (r .requests) pages′) (take (4 * r .requests) answers′)) out′ next
       → AnsweredWith (ledgered s) s pages dir answers out (counting r next) pages′ dir′ answers′ out′
   unfolding ledgered
   sheet-ledgered {out′} {next} put =

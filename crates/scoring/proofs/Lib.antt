@@ -1,6 +1,10 @@
--- The proofs of this crate: laws in files of their own, and a folder for each function.
-pub mod Worked
-pub mod Determined
+-- In order: a run from a fresh directory is accepted; what the reader's answer says of the sheet (`Reading`); what the
+-- writers leave of lent bytes (`Writing`); a bid and a sheet scored (`Scoring`); a ledger's lines, put one after
+-- another (`Lines`), and a sheet's ledger (`Ledgering`); whether the lent memory is enough (`Lending`); the run to
+-- reproduce, by computation (`Worked`); the promises leave one outcome.
+--
+-- Not here: bytes put one after another (`Putting` of the crate result); that an accepted bid is in range (`Bids` of
+-- the crate sheets); that a fresh directory is sound (`Kept` of the crate laws).
 pub mod Fresh
 pub mod Reading
 pub mod Writing
@@ -8,3 +12,5 @@ pub mod Scoring
 pub mod Lines
 pub mod Ledgering
 pub mod Lending
+pub mod Worked
+pub mod Determined

@@ -15,10 +15,10 @@ use Rattle.result.specs.declared.Written.{Written}
 use Rattle.result.specs.Ledger.{requestLine}
 use Rattle.result.specs.Put.{Put}
 use Rattle.result.specs.Promises.{Wrote, onWriteText}
-use Rattle.result.proofs.Putting.{both, put-as}
+use Rattle.result.proofs.Putting.{none-put, both, put-as}
 use Rattle.scoring.specs.Scored.{ledgerLine, ledgerLines}
 use Rattle.scoring.specs.Ready.{Request, LinePut}
-use Rattle.scoring.proofs.Writing.{text-over, part-put, nothing-put}
+use Rattle.scoring.proofs.Writing.{text-over, part-put}
 
 -- Four words an answer.
 pub four-words : (t : Tally) (trace : List ℕ) (d : Directory) → ∣ runFrom t trace d .answers ∣ ≡ 4 * ∣ trace ∣
@@ -41,7 +41,8 @@ pub record AnswerPlaces (i number kind evicted list moves : ℕ) : Type 0 where
 module _ {i at : ℕ} {pages answers out : List ℕ} (h : Request i at pages answers out) where
   abbrev written : ℕ → ℕ → ℕ → ℕ → ℕ → List ℕ
   written number kind evicted list moves =
-      requestLine number (getD pages i 0) (getD answers kind 0) (getD answers evicted 0) (getD answers list 0) (getD answers moves 0)
+      let word : ℕ → ℕ = λ place. getD answers place 0 in
+      requestLine number (getD pages i 0) (word kind) (word evicted) (word list) (word moves)
 
   its-line : {number kind evicted list moves : ℕ} → AnswerPlaces i number kind evicted list moves
       → written number kind evicted list moves ≡ ledgerLine (i + 1) (getD pages i 0) (drop (4 * i) answers)
@@ -67,7 +68,8 @@ pub record LedgerMidway (out : List ℕ) (at : ℕ) (pages answers : List ℕ) (
   pub inside : i ≤ ∣ pages ∣
   pub not-far : place ≤ 256 * (i + 1)
   pub as-long : ∣ w ∣ ≡ ∣ out ∣
-  pub comes-to : (w′ : List ℕ) (next : ℕ) → Put w place (ledgerLines (i + 1) (drop i pages) (drop (4 * i) answers)) w′ next
+  pub comes-to : (w′ : List ℕ) (next : ℕ)
+      → Put w place (ledgerLines (i + 1) (drop i pages) (drop (4 * i) answers)) w′ next
       → Put out at (ledgerLines 1 pages answers) w′ next
 
 module _ (out : List ℕ) (at : ℕ) (pages answers : List ℕ) where
@@ -99,4 +101,4 @@ module _ (out : List ℕ) (at : ℕ) (pages answers : List ℕ) where
 
     pub ends : ∣ pages ∣ ≤ i → Put out at (ledgerLines 1 pages answers) w place
     unfolding ledgerLines
-    ends over = m .comes-to w place (rw (drop-of-length-le pages over) (nothing-put w place))
+    ends over = m .comes-to w place (rw (drop-of-length-le pages over) none-put)

@@ -20,7 +20,8 @@ use Rattle.result.specs.declared.Written.{Written}
 use Rattle.result.specs.Promises.{WroteSheet, WroteRefusal}
 use Rattle.scoring.specs.declared.Scored.{Scored}
 use Rattle.scoring.specs.Scored.{outcome, replayed, printed, scored}
-use Rattle.scoring.specs.Ready.{refusedScored, Fitting, RanFresh, Lent, GoodBid, meant, TextOver, BidScored, AnsweredWith}
+use Rattle.scoring.specs.Ready.{refusedScored, Fitting, RanFresh, Lent, GoodBid, meant}
+use Rattle.scoring.specs.Ready.{TextOver, BidScored, AnsweredWith}
 use Rattle.scoring.proofs.Reading.{Accepted, sheet-refused, sheet-accepted}
 use Rattle.scoring.proofs.Writing.{sheet-over, text-over, over-fits}
 
@@ -116,7 +117,8 @@ module _ (s pages dir answers out : List ℕ) (lent : Lent 256 pages dir answers
       few = few;
     }
 
-    pub sheet-scored : {dir′ answers′ out′ : List ℕ} {r : Scored} → BidScored b pages′ dir answers out r dir′ answers′ out′
+    pub sheet-scored : {dir′ answers′ out′ : List ℕ} {r : Scored}
+        → BidScored b pages′ dir answers out r dir′ answers′ out′
         → AnsweredWith (scored s) s pages dir answers out r pages′ dir′ answers′ out′
     unfolding scored
     sheet-scored {r = r} h = record {

@@ -10,12 +10,17 @@ use Rattle.sheets.specs.Number.{digitsForm, whole, missCost}
 use Rattle.sheets.specs.Bid.{policyLine, sizeLine, costLine, pageLine, inOrder, meaning}
 use Rattle.sheets.specs.Result.{decimal, milliseconds, resultSheet}
 use Rattle.result.specs.Ledger.{requestLine}
-use Rattle.scoring.specs.Scored.{printed, scored, ledgerLines, requestLines, ledgered, RunToReproduce, WorkedLedger}
+use Rattle.scoring.specs.Scored.{printed, scored, ledgerLines, requestLines, ledgered}
+use Rattle.scoring.specs.Scored.{RunToReproduce, WorkedLedger}
+
+both : RunToReproduce × WorkedLedger
+unfolding placeNew runFrom serve missed repeat Car.evict Car.trim Car.placeB1 Car.placeB2
+    digitsForm whole missCost policyLine sizeLine costLine pageLine inOrder meaning indexOf
+    decimal milliseconds resultSheet requestLine printed scored ledgerLines requestLines ledgered
+both = (refl, refl)
 
 pub run-to-reproduce : RunToReproduce
-unfolding placeNew runFrom serve missed repeat Car.evict Car.trim Car.placeB1 Car.placeB2 digitsForm whole missCost policyLine sizeLine costLine pageLine inOrder meaning decimal milliseconds resultSheet printed scored indexOf
-run-to-reproduce = refl
+run-to-reproduce = both .0
 
 pub worked-ledger : WorkedLedger
-unfolding placeNew runFrom serve missed repeat Car.evict Car.trim Car.placeB1 Car.placeB2 digitsForm whole missCost policyLine sizeLine costLine pageLine inOrder meaning decimal milliseconds resultSheet requestLine printed scored ledgerLines requestLines ledgered indexOf
-worked-ledger = refl
+worked-ledger = both .1

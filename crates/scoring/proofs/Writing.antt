@@ -1,7 +1,7 @@
 -- What the writers leave of lent bytes that have room: the text over them; and what a part's text is to the whole.
-use mathlib.Core.Path.{_≡_, refl, sym, ap, _∙_}
+use mathlib.Core.Path.{_≡_, sym, ap, _∙_}
 use mathlib.Core.Bool.{true}
-use mathlib.Core.List.{List, [], _++_, append-assoc, append-nil}
+use mathlib.Core.List.{List, _++_, append-assoc}
 use Prim.Native.Nat.{ℕ, _+_, _*_, _≤_, _<_}
 use native.Mathlib.Nat.{mul-le-mul-right}
 use native.Mathlib.Omega.{arith}
@@ -11,24 +11,18 @@ use borrow.Author.Tests.{le-ltb}
 use Rattle.terms.specs.Choice.{∣_∣}
 use Rattle.terms.specs.Policies.{knownPolicy}
 use Rattle.sheets.specs.Result.{resultSheet}
-use Rattle.sheets.specs.Refusals.{over, onWrite}
+use Rattle.sheets.specs.Refusals.{over}
 use Rattle.result.specs.declared.Outcome.{Outcome}
 use Rattle.result.specs.declared.Written.{Written}
 use Rattle.result.specs.Put.{Put}
 use Rattle.result.specs.Promises.{defined, Wrote, onWriteText, WroteSheet}
 use Rattle.result.proofs.Putting.{pasted}
+use Rattle.result.proofs.Refused.{sheet-as-text}
 use Rattle.scoring.specs.Ready.{TextOver}
 
 -- A text over lent bytes is no longer than they are.
 pub over-fits : {text out : List ℕ} {count : ℕ} {out′ : List ℕ} → TextOver text out count out′ → count ≤ ∣ out′ ∣
 over-fits {text} {out} h = omega (arith, h .count-is, ap ∣_∣ (h .out-is), length-append text (drop ∣ text ∣ out))
-
-pub sheet-over : (o : Outcome) (out : List ℕ) {out′ : List ℕ} {r : Written} → WroteSheet o out r out′
-    → knownPolicy (o .policy) ≡ true → 256 ≤ ∣ out ∣ → TextOver (resultSheet (defined o)) out (r .count) out′
-unfolding onWrite
-sheet-over o out h known room =
-    let test = le-ltb ∣ out ∣ 256 room in
-    record { count-is = rw (known, test) at (h .count-is); out-is = rw (known, test) at (h .bytes-are) }
 
 pub text-over : (text out : List ℕ) {out′ : List ℕ} {r : Written} → Wrote (onWriteText text out) r out′
     → 256 ≤ ∣ out ∣ → TextOver text out (r .count) out′
@@ -37,8 +31,12 @@ text-over text out h room =
     let test = le-ltb ∣ out ∣ 256 room in
     record { count-is = rw test at (h .count-is); out-is = rw test at (h .bytes-are) }
 
+pub sheet-over : (o : Outcome) (out : List ℕ) {out′ : List ℕ} {r : Written} → WroteSheet o out r out′
+    → knownPolicy (o .policy) ≡ true → 256 ≤ ∣ out ∣ → TextOver (resultSheet (defined o)) out (r .count) out′
+sheet-over o out h known room = text-over (resultSheet (defined o)) out (rw (sheet-as-text o out known) at h) room
+
 -- A text that has room in a buffer's first k bytes stands over the whole buffer as over those.
-pub over-part : (text l : List ℕ) (k : ℕ) → ∣ over text (take k l) ∣ ≡ ∣ take k l ∣
+over-part : (text l : List ℕ) (k : ℕ) → ∣ over text (take k l) ∣ ≡ ∣ take k l ∣
     → over text (take k l) ++ drop k l ≡ over text l
 over-part text l k same =
     let n = ∣ text ∣ in
@@ -52,8 +50,8 @@ pub record PutWithin (w : List ℕ) (at : ℕ) (text : List ℕ) (k : ℕ) (w′
   pub is-put : Put w at text w′ next
   pub not-far : next ≤ at + k
 
-module _ (w text part : List ℕ) (at k : ℕ) (room : at + k ≤ ∣ w ∣) {count : ℕ} (h : TextOver text (take k (drop at w)) count part)
-    (same : ∣ part ∣ ≡ ∣ take k (drop at w) ∣) where
+module _ (w text part : List ℕ) (at k : ℕ) (room : at + k ≤ ∣ w ∣) {count : ℕ}
+    (h : TextOver text (take k (drop at w)) count part) (same : ∣ part ∣ ≡ ∣ take k (drop at w) ∣) where
   fits : ∣ text ∣ ≤ k
   fits =
       let long = length-take-le k (drop at w) (omega (arith, length-drop at w)) in
@@ -70,15 +68,6 @@ module _ (w text part : List ℕ) (at k : ℕ) (room : at + k ≤ ∣ w ∣) {co
     is-put = rw (pasted-back, h .count-is) (pasted (record { fits = omega (arith, fits) }));
     not-far = omega (arith, h .count-is, fits);
   }
-
--- Nothing put leaves the bytes as they are.
-pub nothing-put : (w : List ℕ) (at : ℕ) → Put w at [] w at
-nothing-put w at = record {
-  next-is = omega arith;
-  front-is = sym (append-nil (take at w));
-  rest-stays = refl;
-  as-long = refl;
-}
 
 -- A 64-bit wait holds any misses at any cost.
 pub wait-fits : (misses cost : ℕ) → misses < 4294967296 → cost < 4294967296 → misses * cost < 18446744073709551616

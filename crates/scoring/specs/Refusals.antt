@@ -25,7 +25,8 @@ pub record Scoring : Type 0 where
 -- Memory enough for any bid: 1,000 pages, a directory of 1,024, four words an answer, and bytes to print into.
 unfoldable pub enough : ℕ → List ℕ → List ℕ → List ℕ → List ℕ → Bool
 enough least pages dir answers out =
-    leb mostPages ∣ pages ∣ && (leb (8 + 4 * mostSize) ∣ dir ∣ && (leb (4 * mostPages) ∣ answers ∣ && leb least ∣ out ∣))
+    leb mostPages ∣ pages ∣
+    && (leb (8 + 4 * mostSize) ∣ dir ∣ && (leb (4 * mostPages) ∣ answers ∣ && leb least ∣ out ∣))
 
 -- A refused call: its number and line, its text in front of the bytes, all other lent memory as it was.
 abbrev pub refusedScore : ℕ → ℕ → List ℕ → List ℕ → List ℕ → List ℕ → List ℕ → Scoring

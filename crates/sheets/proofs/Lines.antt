@@ -19,7 +19,8 @@ splitAt n s = line (take n s) (lines (drop (n + 1) s))
 
 split-later : (b n : ℕ) (s : List ℕ) → behind b (splitAt n s) ≡ splitAt (suc n) (b ∷ s)
 split-later b n s =
-    let next : suc (n + 1) ≡ suc n + 1 = omega arith in ap (λ (m : ℕ). line (b ∷ take n s) (lines (drop m (b ∷ s)))) next
+    let next : suc (n + 1) ≡ suc n + 1 = omega arith in
+    ap (λ (m : ℕ). line (b ∷ take n s) (lines (drop m (b ∷ s)))) next
 
 pub lines-closed : (s : List ℕ) → indexOf lineFeed s < ∣ s ∣ → lines s ≡ splitAt (indexOf lineFeed s) s
 unfolding indexOf indexAfter

@@ -12,15 +12,16 @@ use borrow.Author.Tests.{ltb-true, ltb-false, lt-ltb, le-ltb, le-leb, ne-eqb, eq
 use Rattle.terms.specs.Choice.{if_then_else_, ∣_∣}
 use Rattle.terms.proofs.Choice.{by-test}
 use Rattle.bytes.specs.Bytes.{indexAfter, indexOf}
-use Rattle.sheets.specs.Number.{zeroDigit, comma, isDigit, allDigits, value, valueAfter, noLeadingZero, digitsForm, whole}
-use Rattle.sheets.specs.Number.{means, beforeComma, afterComma, missCost}
+use Rattle.sheets.specs.Number.{means, zeroDigit, comma, isDigit, allDigits, value, valueAfter}
+use Rattle.sheets.specs.Number.{noLeadingZero, digitsForm, beforeComma, afterComma}
 use Rattle.sheets.specs.Result.{lastDigit, inDigits, decimal, threeDigits, milliseconds}
 use Rattle.sheets.specs.Demands.{WholeReadBack, WaitsReadBack, CostReadBack}
+use Rattle.sheets.proofs.Digits.{zero-decides, whole-is, cost-is}
 
 -- DIGIT BY DIGIT
 
 -- What one digit has, and digits with one more behind them, all digits have.
-pub by-digits : (P : ℕ → List ℕ → Type 0)
+by-digits : (P : ℕ → List ℕ → Type 0)
     → ((n : ℕ) → n < 10 → P n (lastDigit n ∷ []))
     → ((n : ℕ) (s : List ℕ) → 10 ≤ n → P (n / 10) s → P n (s ++ (lastDigit n ∷ [])))
     → (k n : ℕ) → n < 10 ^ suc k → P n (inDigits (suc k) n)
@@ -42,7 +43,8 @@ more-digits k n h =
 more-room : (k n : ℕ) → n < 10 ^ suc k → inDigits (suc (suc k)) n ≡ inDigits (suc k) n
 more-room zero n h = one-digit 1 n h ∙ sym (one-digit 0 n h)
 more-room (suc k) n h =
-    ap (λ (s : List ℕ). if ltb n 10 then lastDigit n ∷ [] else s ++ (lastDigit n ∷ [])) (more-room k (n / 10) (omega arith))
+    ap (λ (s : List ℕ). if ltb n 10 then lastDigit n ∷ [] else s ++ (lastDigit n ∷ []))
+    (more-room k (n / 10) (omega arith))
 
 -- A number's decimal digits by its last one.
 pub decimal-one : (n : ℕ) → n < 10 → decimal n ≡ lastDigit n ∷ []
@@ -66,7 +68,7 @@ last-is-digit n =
     let b = lastDigit n in
     ap (λ (t : Bool). if t then leb b 57 else false) (le-leb 48 b (omega arith)) ∙ le-leb b 57 (omega arith)
 
-pub all-behind : (s t : List ℕ) → allDigits s ≡ true → allDigits t ≡ true → allDigits (s ++ t) ≡ true
+all-behind : (s t : List ℕ) → allDigits s ≡ true → allDigits t ≡ true → allDigits (s ++ t) ≡ true
 all-behind [] t h k = k
 all-behind (b ∷ s) t h k = go (isDigit b) h (λ all. all-behind s t all k)
   where
@@ -105,7 +107,8 @@ more-has n s h front = record {
   few = few;
   single = λ below. absurd (omega arith);
   first = λ above.
-      ap (λ (b : ℕ). eqb b zeroDigit) (List·getD-append s (lastDigit n ∷ []) 0 0 (front .some)) ∙ front .first (omega arith);
+      ap (λ (b : ℕ). eqb b zeroDigit) (List·getD-append s (lastDigit n ∷ []) 0 0 (front .some))
+      ∙ front .first (omega arith);
 }
   where
     few : (k : ℕ) → n < 10 ^ suc k → ∣ s ++ (lastDigit n ∷ []) ∣ ≤ suc k
@@ -125,16 +128,15 @@ no-leading-zero n s d =
     let above : n ≢ 0 = λ none. eqb-false ∣ s ∣ 1 not (d .single (omega arith)) in
     rw (d .first (omega arith)))
 
-pub in-form : (k n : ℕ) (s : List ℕ) → Digits n s → n < 10 ^ suc k → digitsForm (suc k) s ≡ true
-unfolding digitsForm
-in-form k n s d most =
-    rw (le-leb 1 ∣ s ∣ (d .some), le-leb ∣ s ∣ (suc k) (d .few k most), d .all-digits, no-leading-zero n s d)
+digits-in-form : (k n : ℕ) (s : List ℕ) → Digits n s → n < 10 ^ suc k → digitsForm (suc k) s ≡ true
+digits-in-form k n s d most =
+    zero-decides (suc k) s (d .some) (d .few k most) (d .all-digits) ∙ no-leading-zero n s d
 
 pub whole-back : WholeReadBack
-unfolding whole
 whole-back n h =
     let d = digits-of n (omega arith) in
-    rw (in-form 9 n (decimal n) d (omega arith), d .worth, le-leb n 4294967295 (omega arith))
+    let form = digits-in-form 9 n (decimal n) d (omega arith) in
+    whole-is (decimal n) form (omega (arith, d .worth)) ∙ ap means (d .worth)
 
 -- The comma behind digits is the first one.
 comma-place : (s t : List ℕ) → allDigits s ≡ true → indexOf comma (s ++ (comma ∷ t)) ≡ ∣ s ∣
@@ -143,7 +145,8 @@ comma-place [] t all = refl
 comma-place (b ∷ s) t all = go (isDigit b) refl all (comma-place s t)
   where
     go : (test : Bool) → isDigit b ≡ test → (if test then allDigits s else false) ≡ true
-        → (allDigits s ≡ true → indexOf comma (s ++ (comma ∷ t)) ≡ ∣ s ∣) → indexOf comma (b ∷ (s ++ (comma ∷ t))) ≡ suc ∣ s ∣
+        → (allDigits s ≡ true → indexOf comma (s ++ (comma ∷ t)) ≡ ∣ s ∣)
+        → indexOf comma (b ∷ (s ++ (comma ∷ t))) ≡ suc ∣ s ∣
     go true is all rest =
         let other = ne-eqb b comma (λ same. false≢true (sym (ap isDigit same) ∙ is)) in
         rw other (ap suc (rest all))
@@ -161,13 +164,21 @@ module _ (s t : List ℕ) (all : allDigits s ≡ true) where
 three-worth : (n : ℕ) → n < 1000 → value (threeDigits n) ≡ n
 three-worth n h = omega arith
 
+whole-part-in-form : (k wait : ℕ) → wait < 2 ^ 64 → wait / 1000 < 10 ^ suc k
+    → digitsForm (suc k) (beforeComma (milliseconds wait)) ≡ true
+unfolding milliseconds
+whole-part-in-form k wait h most =
+    let d = digits-of (wait / 1000) (omega arith) in
+    let all = d .all-digits in
+    rw before-is (digits-in-form k (wait / 1000) (decimal (wait / 1000)) d most)
+
 pub wait-back : WaitsReadBack
 unfolding milliseconds
 wait-back wait h =
     let d = digits-of (wait / 1000) (omega arith) in
     let all : allDigits (decimal (wait / 1000)) ≡ true = d .all-digits in
     record {
-      whole-part = rw before-is (in-form 16 (wait / 1000) (decimal (wait / 1000)) d (omega arith));
+      whole-part = whole-part-in-form 16 wait h (omega arith);
       three-after = rw after-is;
       digits-after = rw after-is (simp last-is-digit);
       milliseconds-back = rw before-is (d .worth);
@@ -175,10 +186,8 @@ wait-back wait h =
     }
 
 pub cost-back : CostReadBack
-unfolding missCost milliseconds
 cost-back cost h =
-    let d = digits-of (cost / 1000) (omega arith) in
-    let all : allDigits (decimal (cost / 1000)) ≡ true = d .all-digits in
-    let form = in-form 3 (cost / 1000) (decimal (cost / 1000)) d (omega arith) in
-    rw (before-is, after-is, form, d .worth)
-    (simp last-is-digit (ap means (omega (arith, three-worth (cost % 1000) (omega arith)))))
+    let back = wait-back cost (omega arith) in
+    let form = whole-part-in-form 3 cost (omega arith) (omega arith) in
+    cost-is (milliseconds cost) (record { before = form; three = back .three-after; after = back .digits-after })
+    ∙ ap means (omega (arith, back .milliseconds-back, back .thousandths-back))

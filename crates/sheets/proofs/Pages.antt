@@ -1,5 +1,5 @@
 -- The page lines, one after the other: what the reading of the first says of them all.
-use mathlib.Core.Path.{_≡_, refl, ap, _∙_}
+use mathlib.Core.Path.{_≡_, ap, _∙_}
 use mathlib.Core.Bool.{Bool, true, false, true≢false}
 use mathlib.Core.List.{List, []}
 use Prim.Native.Nat.{ℕ, suc, _<_}
@@ -8,9 +8,10 @@ use lib.ListN.{drop}
 use lib.Dec.{ltb}
 use borrow.Author.Tests.{ltb-true}
 use Rattle.terms.specs.Choice.{if_then_else_, ∣_∣}
-use Rattle.terms.specs.Refusals.{tooManyPages, noSuchLine}
+use Rattle.terms.specs.Refusals.{noSuchLine}
+use Rattle.terms.proofs.Choice.{by-test}
 use Rattle.text.specs.Text.{bytes, starts}
-use Rattle.sheets.specs.Number.{Value, means, wrong, whole}
+use Rattle.sheets.specs.Number.{Value, means, wrong}
 use Rattle.sheets.specs.Lines.{Lines, end, unclosed, line, good, bad, before}
 use Rattle.sheets.specs.Bid.{listed, refusedAt, numberOfLine, onto, pageMeant, pageLine, pagesFrom}
 
@@ -29,7 +30,7 @@ never : {A : Type 0} {k n : ℕ} {rest : Lines} → bad k ≡ good n rest → A
 never e = let no : _≡_ {A = ℕ} 0 1 = cc in absurd (omega arith)
 
 -- A line under its key is good only by its value.
-pub good-value : (t : Bool) (v : Value) (after : Lines) (n : ℕ) (rest : Lines)
+good-value : (t : Bool) (v : Value) (after : Lines) (n : ℕ) (rest : Lines)
     → (if t then before v after else bad noSuchLine) ≡ good n rest → GoodLine v after n rest
 good-value true (means x) after n rest e = record { meant = cc; same-rest = cc }
 good-value true (wrong k) after n rest e = never e
@@ -42,11 +43,9 @@ pub record NextPage (n : ℕ) (ls : Lines) (page : ℕ) (rest : Lines) : Type 0 
 module _ (n page : ℕ) (rest : Lines) where
   -- "5 if it is the 1,001st page line"
   few : (s : List ℕ) → pageMeant n s ≡ means page → n < 1000
-  few s e = go (ltb n 1000) refl e
-    where
-      go : (t : Bool) → ltb n 1000 ≡ t → (if t then whole s else wrong tooManyPages) ≡ means page → n < 1000
-      go true h e = ltb-true n 1000 h
-      go false h e = let no : _≡_ {A = ℕ} 0 1 = cc in absurd (omega arith)
+  few s =
+      by-test (λ (v : Value). v ≡ means page → n < 1000) (ltb n 1000) (λ test is. ltb-true n 1000 test)
+      (λ test is. let no : _≡_ {A = ℕ} 0 1 = cc in absurd (omega arith))
 
   pub next-page : (ls : Lines) → pageLine n ls ≡ good page rest → NextPage n ls page rest
   unfolding pageLine

@@ -17,7 +17,7 @@ pub counted : (z : ℤ) (most n : ℕ) → SFits w64 z → n ≡ clamped (toZ w6
 counted z most n fits is = is ∙ ap (λ (x : ℤ). clamped x most) (toZ-ofZ fits)
 
 pub moved : (z : ℤ) (most left : ℕ) → SFits w64 z → most ≡ left → Moved most z → Moved left (toZ w64 (ofZ w64 z))
-moved z most left fits same h = subst (λ (x : ℤ). Moved left x) (sym (toZ-ofZ fits)) (subst (λ (n : ℕ). Moved n z) same h)
+moved z most left fits same h = rw (toZ-ofZ fits, sym same) h
 
 pub tells-end : (z : ℤ) → SFits w64 z → ofZ w64 z ≡ 0 → ReadTells z End
 tells-end (pos zero) fits is = refl

@@ -1,3 +1,6 @@
--- The proofs of this crate: the laws of reads, and a folder for each function.
+-- In order: what a read's answer tells, by its bits (`Answers`); reads one after another, and that what they put stands
+-- in front as each put it (`Reading`).
+--
+-- Not here: what a call of the system promises (the kit's crates io and libc).
 pub mod Answers
 pub mod Reading

@@ -41,7 +41,8 @@ pub record SoFar (w : List ℕ) (at : ℕ) (v : List ℕ) : Type 0 where
 pub begun : (w : List ℕ) → SoFar w 0 w
 begun w = record { reads = none; fits = omega arith; as-long = refl }
 
-pub one-more : {w v w′ : List ℕ} {at : ℕ} → SoFar w at v → (r : Got) → GoesOn r → ReadAt v at r w′ → SoFar w (at + put r) w′
+pub one-more : {w v w′ : List ℕ} {at : ℕ} → SoFar w at v → (r : Got) → GoesOn r → ReadAt v at r w′
+    → SoFar w (at + put r) w′
 one-more h r on one = record {
   reads = more (h .reads) r on one;
   fits = omega (arith, one .fits, one .as-long);
@@ -62,8 +63,13 @@ found-end {v = v} h one = record {
 }
 
 pub filled : {w v : List ℕ} {n : ℕ} → SoFar w n v → length v ≤ n → Whole w n v
-filled {v = v} h all =
-    record { last = v; reads = h .reads; over = full (omega (arith, h .fits)); in-order = in-order (h .reads); fits = h .fits }
+filled {v = v} h all = record {
+  last = v;
+  reads = h .reads;
+  over = full (omega (arith, h .fits));
+  in-order = in-order (h .reads);
+  fits = h .fits;
+}
 
 pub handed-nothing : (w v : List ℕ) {r : Input} → r ≡ Failed → length v ≡ length w → Handed w r v
 handed-nothing w v is same = subst (λ (r : Input). Handed w r v) (sym is) same
