@@ -51,7 +51,8 @@ module _ {w : List ℕ} {k : Hand} {i at : ℕ} (t : Turning Holds w k) (known :
         rest = goes-on t (nameOf i) choice (has-head t i choice) set turned;
       }
 
-  pub look-stops : {f : ℕ} {L : List ℕ} → bit ≡ false → Becomes demoted (getD w (at + 1) 0) f → HeadMoved i (i + 2) f w L
+  pub look-stops : {f : ℕ} {L : List ℕ} → bit ≡ false → Becomes demoted (getD w (at + 1) 0) f
+      → HeadMoved i (i + 2) f w L
       → EndsFrom Holds w k (record { page = getD w at 0; list = i + 1; hand = demotedOnce k }) L
   look-stops {L = L} is becomes moved =
       let demotes = head-moved (omega arith) some start (i + 2) demoted (λ e. refl) becomes moved in

@@ -1,4 +1,4 @@
--- The evict part from a full directory: its counts at the start, and what it leaves, which is what place needs.
+-- The evict part from a full directory of CART: its counts at the start, and what it leaves, which is what place needs.
 -- The counts are those of T1 and T2 before and after it.
 use mathlib.Core.Path.{_≡_, refl, _∙_}
 use mathlib.Core.List.{List}
@@ -67,7 +67,8 @@ module _ {w : List ℕ} (f : Full cart w) where
     unfolding begins-passing
     begins-shown = record { shown = a .is; keeps = omega (arith, begins-passing .accounts) }
 
-  pub opened : {W : List ℕ} {r : Evicted} → EvictedWithCounts Holds (evict (decode w)) r W → Freed W × CountsFit W (r .short) (r .long)
+  pub opened : {W : List ℕ} {r : Evicted} → EvictedWithCounts Holds (evict (decode w)) r W
+      → Freed W × CountsFit W (r .short) (r .long)
   opened {W} e =
       let d = decode w in
       let d′ = evict d .dir in

@@ -7,7 +7,6 @@ use native.Mathlib.Omega.{arith}
 use lib.ListN.{getD}
 use borrow.Author.Tests.{eq-eqb, ne-eqb, lt-ltb, le-ltb}
 use Rattle.terms.specs.Choice.{∣_∣}
-use Rattle.figures.specs.Entry.{Entry}
 use Rattle.figures.specs.Directory.{Directory, B1, B2, listOf, cached, remembered}
 use Rattle.figures.specs.Words.{nB1, nB2}
 use Rattle.figures.specs.Cart.{trim}
@@ -31,7 +30,8 @@ module _ (q k1 k2 : ℕ) where
   pub oldest-other : k1 ≤ q → ¬ (k2 ≡ 0) → oldestOf q k1 k2 ≡ B2
   oldest-other below some = rw (le-ltb q k1 below, ne-eqb k2 0 some)
 
-module _ (d : Directory) {w : List ℕ} (b : ℕ) (is : Holds d w) (named : nameOf b ≡ oldestOf (getD w 3 0) (nB1 w) (nB2 w)) where
+module _ (d : Directory) {w : List ℕ} (b : ℕ) (is : Holds d w)
+    (named : nameOf b ≡ oldestOf (getD w 3 0) (nB1 w) (nB2 w)) where
   named-in-d : nameOf b ≡ oldestOf (d .q) ∣ d .b1 ∣ ∣ d .b2 ∣
   named-in-d = let h = header d w is in rw (← h .q, ← h .b1, ← h .b2) named
 
@@ -52,6 +52,4 @@ not-dropped d is fits = rw (trims-not d fits) is
 pub trim-fits : (d : Directory) → cached d + 1 ≡ d .c → remembered d ≤ d .c + 1 → RoomForOne d (trim d)
 trim-fits d one-free history =
     let t = cart-trims d history in
-    let n1 = ap (λ (l : List Entry). ∣ l ∣) (t .same-t1) in
-    let n2 = ap (λ (l : List Entry). ∣ l ∣) (t .same-t2) in
-    record { one-fits = omega (arith, t .history-fits); same-c = t .same-c }
+    omega (arith, t, ap ∣_∣ (t .same-t1), ap ∣_∣ (t .same-t2))

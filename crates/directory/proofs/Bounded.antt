@@ -1,5 +1,4 @@
 -- Hand moves of a run from a fresh directory, by the promise alone: at most one a request for CAR, two for CART.
--- Assumes nothing.
 use mathlib.Core.List.{List}
 use Prim.Native.Nat.{ℕ, _+_, _*_, _≤_}
 use native.Mathlib.Omega.{arith}

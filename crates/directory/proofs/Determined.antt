@@ -1,5 +1,4 @@
 -- Two outcomes that a promise allows are equal: the answer and every lent word afterwards.
--- Assumes nothing.
 use mathlib.Core.Path.{_≡_, sym, _∙_}
 use mathlib.Core.List.{List}
 use Prim.Native.Nat.{ℕ}
@@ -31,7 +30,13 @@ request-determined {r = r} {s} a b =
 -- The code's tally says all that the definitions' says.
 defined-one-to-one : (t u : Tally) → defined t ≡ defined u → t ≡ u
 defined-one-to-one t u e =
-    λ i. record { requests = e i .requests; hits = e i .hits; misses = e i .misses; evictions = e i .evictions; moves = e i .moves }
+    λ i. record {
+      requests = e i .requests;
+      hits = e i .hits;
+      misses = e i .misses;
+      evictions = e i .evictions;
+      moves = e i .moves;
+    }
 
 pub run-determined : {w trace answers w′ v′ a b : List ℕ} {r s : Ran}
     → Replayed w trace answers r w′ a → Replayed w trace answers s v′ b → (r ≡ s) × (w′ ≡ v′) × (a ≡ b)

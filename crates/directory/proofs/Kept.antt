@@ -1,5 +1,4 @@
 -- An accepted request or run leaves a sound directory with the requested page in T1 or T2, by the promise alone.
--- Assumes nothing.
 use mathlib.Core.Path.{_≡_, refl, sym, ap, _∙_, subst⁻¹}
 use mathlib.Core.Bool.{Bool, true, false, not}
 use mathlib.Core.List.{List, [], _∷_, _++_}
@@ -13,14 +12,13 @@ use Rattle.figures.specs.Words.{encode, decode}
 use Rattle.figures.specs.Sound.{sound}
 use Rattle.figures.specs.Request.{request}
 use Rattle.figures.specs.Run.{zeroTally}
-use Rattle.figures.specs.Refusals.{checkNumber, onCheck, Answered, onRequest, runNumber, RunAnswered, onRun}
+use Rattle.figures.specs.Refusals.{checkNumber, Answered, onRequest, runNumber, RunAnswered, onRun}
 use Rattle.figures.specs.Demands.{Sound}
 use Rattle.laws.proofs.Encoding.{decode-encode}
 use Rattle.laws.proofs.Requests.{after, run-after, after-append}
 use Rattle.laws.proofs.Kept.{request-keeps, run-keeps}
 use Rattle.directory.specs.Demands.{SoundWith, RequestLeavesPage, RunLeavesSound, RunLeavesLastPage}
-use Rattle.directory.proofs.Serving.{decoded-sound}
-use Rattle.directory.proofs.Requesting.{accepted-sound}
+use Rattle.directory.proofs.Refused.{accepted-directory}
 
 -- A request of a sound directory leaves such words.
 request-leaves : (x : ℕ) (d : Directory) → Sound d → SoundWith x (encode (request x d .dir))
@@ -30,10 +28,6 @@ request-leaves x d s =
 
 -- A request that is accepted has passed the check, and so has a run.
 module _ (w : List ℕ) where
-  checked-sound : checkNumber w ≡ 0 → Sound (decode w)
-  unfolding onCheck
-  checked-sound none = decoded-sound w (accepted-sound w none)
-
   request-checked : (x : ℕ) → onRequest w x .number ≡ 0 → checkNumber w ≡ 0
   unfolding onRequest
   request-checked x =
@@ -47,7 +41,8 @@ module _ (w : List ℕ) where
 pub request-leaves-page : RequestLeavesPage
 request-leaves-page w x r w′ p accepted =
     let none = request-checked w x (sym (p .number-is) ∙ accepted) in
-    subst⁻¹ (SoundWith x) (p .words-are ∙ request-words w x none) (request-leaves x (decode w) (checked-sound w none))
+    subst⁻¹ (SoundWith x) (p .words-are ∙ request-words w x none)
+    (request-leaves x (decode w) (accepted-directory w none))
 
 module _ (w trace answers : List ℕ) where
   run-accepted : onRun w trace answers .number ≡ 0 → runNumber w trace answers ≡ 0
@@ -58,7 +53,7 @@ module _ (w trace answers : List ℕ) where
 
   run-sound : runNumber w trace answers ≡ 0 → Sound (decode w)
   unfolding runNumber
-  run-sound none = checked-sound w (go (eqb (checkNumber w) 0) _ refl none)
+  run-sound none = accepted-directory w (go (eqb (checkNumber w) 0) _ refl none)
     where
       go : (b : Bool) (m : ℕ) → eqb (checkNumber w) 0 ≡ b → (if not b then checkNumber w else m) ≡ 0 → checkNumber w ≡ 0
       go true m is none = eqb-true (checkNumber w) 0 is

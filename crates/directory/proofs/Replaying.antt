@@ -1,5 +1,4 @@
 -- A run of a sound directory, request by request: an answer's four words, its moves, and where the run stands midway.
--- Assumes nothing.
 use mathlib.Core.Path.{_≡_, refl, sym, ap, _∙_, subst⁻¹}
 use mathlib.Core.List.{List, [], _∷_, _++_, append-assoc, append-nil}
 use Prim.Native.Nat.{ℕ, suc, _+_, _*_, _≤_, _<_}
@@ -43,8 +42,8 @@ moves-counted {w} r x =
     (facts-of-words w (r .is-sound) .known) in
     omega (arith, request-moves-at-most x (decode w) (decoded-sound w (r .is-sound)))
 
--- After i requests the words are v and the buffer is `given`: the answers so far stand in front, and what is left of the
--- trace, from these words and this tally, comes to what the whole run comes to.
+-- After i requests the words are v and the buffer is `given`: the answers so far stand in front, and what is left of
+-- the trace, from these words and this tally, comes to what the whole run comes to.
 pub record RunMidway (w trace answers : List ℕ) (i : ℕ) (v given : List ℕ) (t : Tally) : Type 0 where
   pub inside : i ≤ ∣ trace ∣
   pub ready : Ready v
@@ -74,7 +73,8 @@ module _ (w trace answers : List ℕ) where
 
   module _ {i : ℕ} {v given : List ℕ} {t : Tally} (m : RunMidway w trace answers i v given t) where
     -- One request more.
-    module _ (more : i < ∣ trace ∣) {at : ℕ} (at-is : at ≡ 4 * i) {v′ given′ : List ℕ} {t′ : Tally} (s : Stepped (getD trace i 0) v given at t t′ v′ given′) where
+    module _ (more : i < ∣ trace ∣) {at : ℕ} (at-is : at ≡ 4 * i) {v′ given′ : List ℕ} {t′ : Tally}
+        (s : Stepped (getD trace i 0) v given at t t′ v′ given′) where
       abbrev served : Served
       served = request (getD trace i 0) (decode v)
 
@@ -91,10 +91,12 @@ module _ (w trace answers : List ℕ) where
           rw (m .answers-are, ← m .front-is, drop-append-add, drop-drop) in
           s .answers-are ∙ rw (at-is, kept, later, four, append-assoc)
 
-      next-run : before (m .front ++ answer served) (runFrom (defined t′) (drop (i + 1) trace) (decode v′)) ≡ run trace (decode w)
+      next-run : before (m .front ++ answer served) (runFrom (defined t′) (drop (i + 1) trace) (decode v′))
+          ≡ run trace (decode w)
       unfolding runFrom
       next-run =
-          rw (s .tally-is, ← s .shown, decode-encode, add-one i, append-assoc) (rw (drop-cons trace i 0 more) at (m .comes-to))
+          rw (s .tally-is, ← s .shown, decode-encode, add-one i, append-assoc)
+          (rw (drop-cons trace i 0 more) at (m .comes-to))
 
       pub goes-on : RunMidway w trace answers (i + 1) v′ given′ t′
       goes-on = record {

@@ -1,18 +1,12 @@
 -- A request as the definition has it for every input: refused as the check refuses, else served.
--- Assumes nothing.
-use mathlib.Core.Path.{_≡_, refl, sym, ap, _∙_}
-use mathlib.Core.Bool.{Bool, true, false, not}
+use mathlib.Core.Path.{_≡_, sym, ap, _∙_}
+use mathlib.Core.Bool.{Bool}
 use mathlib.Core.List.{List}
 use Prim.Native.Nat.{ℕ}
 use native.Mathlib.Omega.{arith}
-use lib.ListN.{getD}
-use lib.Dec.{ltb}
 use borrow.Author.Tests.{eq-eqb, ne-eqb}
-use Rattle.terms.specs.Choice.{if_then_else_, ∣_∣}
-use Rattle.terms.specs.Limits.{knownSize}
-use Rattle.terms.specs.Policies.{knownPolicy}
-use Rattle.figures.specs.Words.{decode, size}
-use Rattle.figures.specs.Sound.{exactLength, sound}
+use Rattle.terms.specs.Choice.{if_then_else_}
+use Rattle.figures.specs.Words.{decode}
 use Rattle.figures.specs.Request.{request}
 use Rattle.figures.specs.Refusals.{checkNumber, onCheck, onRequest, Answered, refusedRequest, servedRequest}
 use Rattle.laws.proofs.Moves.{request-moves-at-most}
@@ -20,22 +14,7 @@ use Rattle.engine.specs.declared.Served.{Served}
 use Rattle.engine.specs.Shown.{Tells}
 use Rattle.entries.specs.Holds.{Holds}
 use Rattle.directory.specs.Promises.{Requested}
-use Rattle.directory.proofs.Serving.{decoded-sound}
-
--- Only a sound directory is accepted.
-pub accepted-sound : (w : List ℕ) → onCheck w .number ≡ 0 → sound w ≡ true
-unfolding onCheck checkNumber
-accepted-sound w = go (ltb ∣ w ∣ 8) (knownPolicy (getD w 0 0)) (knownSize (size w)) (exactLength w) (sound w)
-  where
-    go : (short policy sized exact sounds : Bool)
-        → _≡_ {A = ℕ} (if short then 3 else if not policy then 1 else if not sized then 2 else if not exact then 3 else if not sounds then 4 else 0) 0
-        → sounds ≡ true
-    go true policy sized exact sounds is = absurd (omega arith)
-    go false false sized exact sounds is = absurd (omega arith)
-    go false true false exact sounds is = absurd (omega arith)
-    go false true true false sounds is = absurd (omega arith)
-    go false true true true false is = absurd (omega arith)
-    go false true true true true is = refl
+use Rattle.directory.proofs.Refused.{accepted-directory}
 
 module _ (w : List ℕ) (x n : ℕ) (number : n ≡ onCheck w .number) where
   refused : (n ≡ 0 → ⊥) → onRequest w x ≡ refusedRequest n w
@@ -66,9 +45,10 @@ module _ (w : List ℕ) (x n : ℕ) (number : n ≡ onCheck w .number) where
 
   pub requested-served : n ≡ 0 → (s : Served) (w′ : List ℕ) → Tells Holds (request x (decode w)) s w′
       → Requested w x (record { number = 0; kind = s .kind; page = s .page; list = s .list; moves = s .moves }) w′
+  unfolding onCheck
   requested-served none s w′ t =
       let e = sym (served none) in
-      let d-sound = decoded-sound w (accepted-sound w (sym number ∙ none)) in
+      let d-sound = accepted-directory w (sym number ∙ none) in
       record {
         number-is = ap (λ (a : Answered). a .number) e;
         kind-is = t .kind-is ∙ ap (λ (a : Answered). a .kind) e;

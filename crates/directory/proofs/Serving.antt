@@ -1,5 +1,4 @@
 -- One request of a sound directory in the words: what each way through `serve` comes to.
--- Assumes nothing.
 use mathlib.Core.Path.{_≡_, refl, sym, ap, _∙_, subst, subst⁻¹}
 use mathlib.Core.Bool.{true, false, _||_}
 use mathlib.Core.List.{List, _++_}
@@ -84,11 +83,16 @@ module _ {w : List ℕ} (r : Ready w) where
   -- a request leaves it sound
   pub ready-again : (x : ℕ) (w′ : List ℕ) → Holds (request x d .dir) w′ → Ready w′
   ready-again x w′ is =
-      ready w′ (subst (λ (l : List ℕ). sound l ≡ true) is (request-keeps x d (decoded-sound w (r .is-sound)) .sound-again))
+      let kept = request-keeps x d (decoded-sound w (r .is-sound)) in
+      ready w′ (subst (λ (l : List ℕ). sound l ≡ true) is (kept .sound-again))
 
   -- by what the request comes to
   module _ (x : ℕ) (w′ : List ℕ) where
-    tells-as : {s : Served} (a : Answered) → request x d ≡ s → Tells Holds s a w′ → Tells Holds (request x d) a w′ × Ready w′
+    -- The answer tells the request, and the words may be asked again.
+    abbrev TellsRequest : Answered → Type 0
+    TellsRequest a = Tells Holds (request x d) a w′ × Ready w′
+
+    tells-as : {s : Served} (a : Answered) → request x d ≡ s → Tells Holds s a w′ → TellsRequest a
     tells-as a e told =
         let all = subst⁻¹ (λ (s : Served). Tells Holds s a w′) e told in (all, ready-again x w′ (all .shown))
 
@@ -98,26 +102,30 @@ module _ {w : List ℕ} (r : Ready w) where
 
     -- the page's place in T1 and T2, as `find` gives it
     module _ (n k : ℕ) (found : IndexFound w 8 n x k) (all : n ≡ nT1 w + nT2 w) where
-      pub place : k ≡ index x (d .t1 ++ d .t2)
-      place = told (cache-held d w words-held) found refl (length-append (d .t1) (d .t2) ∙ omega (arith, held))
+      length-cache : ∣ d .t1 ++ d .t2 ∣ ≡ n
+      length-cache = length-append (d .t1) (d .t2) ∙ omega (arith, held)
 
-      pub tells-hit : k < n → Holds (hit x d) w′ → Tells Holds (request x d) (stillOf 0) w′ × Ready w′
+      pub place : k ≡ index x (d .t1 ++ d .t2)
+      place = told (cache-held d w words-held) found refl length-cache
+
+      pub tells-hit : k < n → Holds (hit x d) w′ → TellsRequest (stillOf 0)
       tells-hit inside is =
-          let there = index-has x (d .t1 ++ d .t2) (omega (arith, place, length-append (d .t1) (d .t2), held)) in
+          let there = index-has x (d .t1 ++ d .t2) (omega (arith, place, length-cache)) in
+          let cached = sym (has-append x (d .t1) (d .t2)) ∙ there in
           let marks = by-named (λ n. still 0 (policyOf n .hit x d) ≡ still 0 (hit x d)) refl refl in
-          tells-as (stillOf 0)
-          (serve-hit (policyOf (d .policy)) x d (sym (has-append x (d .t1) (d .t2)) ∙ there) ∙ marks) (still-told 0 (hit x d) is)
+          tells-as (stillOf 0) (serve-hit (policyOf (d .policy)) x d cached ∙ marks) (still-told 0 (hit x d) is)
 
       missed-cache : n ≤ k → has x (d .t1) || has x (d .t2) ≡ false
       missed-cache outside =
-          sym (has-append x (d .t1) (d .t2)) ∙ index-lacks x (d .t1 ++ d .t2) (omega (arith, place, length-append (d .t1) (d .t2), held))
+          sym (has-append x (d .t1) (d .t2)) ∙ index-lacks x (d .t1 ++ d .t2) (omega (arith, place, length-cache))
 
-      pub tells-room : n ≤ k → n < size w → Holds (placeNew x d) w′ → Tells Holds (request x d) (stillOf 1) w′ × Ready w′
+      pub tells-room : n ≤ k → n < size w → Holds (placeNew x d) w′ → TellsRequest (stillOf 1)
       tells-room outside free is =
           let room = ne-eqb (cached d) (d .c) (λ e. omega (arith, held)) in
-          tells-as (stillOf 1) (serve-room (policyOf (d .policy)) x d (missed-cache outside) room) (still-told 1 (placeNew x d) is)
+          tells-as (stillOf 1) (serve-room (policyOf (d .policy)) x d (missed-cache outside) room)
+          (still-told 1 (placeNew x d) is)
 
-      pub tells-full : n ≤ k → size w ≤ n → {a : Answered} → Tells Holds (evicting x d) a w′ → Tells Holds (request x d) a w′ × Ready w′
+      pub tells-full : n ≤ k → size w ≤ n → {a : Answered} → Tells Holds (evicting x d) a w′ → TellsRequest a
       tells-full outside full {a} told =
           let is-full = eq-eqb (cached d) (d .c) (omega (arith, held, r .cache-fits)) in
           tells-as a (serve-full (policyOf (d .policy)) x d (missed-cache outside) is-full) told

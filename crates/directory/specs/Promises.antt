@@ -1,5 +1,5 @@
 -- The promises of the public operations: the answer and every lent word afterwards, for every input, refused ones too.
--- Each is fixed by the total function of figures' Refusals; proofs/Determined shows that two outcomes it allows are equal.
+-- Each is fixed by the total function of figures' Refusals; proofs/Determined shows that it allows one outcome.
 use mathlib.Core.Path.{_≡_}
 use mathlib.Core.List.{List}
 use Prim.Native.Nat.{ℕ, _+_, _*_, _≤_}

@@ -35,7 +35,7 @@ pub record Ready (w : List ℕ) : Type 0 where
   pub history-fits : nB1 w + nB2 w ≤ size w
 
 -- One request of a run: the tally, the words and the answers after it, from those before it.
-pub record Stepped (page : ℕ) (w answers : List ℕ) (at : ℕ) (t : Tally) (r : Tally) (w′ answers′ : List ℕ) : Type 0 where
+pub record Stepped (page : ℕ) (w answers : List ℕ) (at : ℕ) (t r : Tally) (w′ answers′ : List ℕ) : Type 0 where
   pub tally-is : defined r ≡ noted (request page (decode w)) (defined t)
   pub shown : Holds (request page (decode w) .dir) w′
   pub answers-are : answers′ ≡ take at answers ++ (answer (request page (decode w)) ++ drop (at + 4) answers)

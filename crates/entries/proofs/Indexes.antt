@@ -10,7 +10,7 @@ use Rattle.terms.specs.Choice.{if_then_else_, ∣_∣}
 use Rattle.figures.specs.Entry.{Entry, marked, has, mark, without}
 use Rattle.entries.specs.Stretches.{index}
 
-pub has-index : (x : ℕ) (l : List Entry) → has x l ≡ true → index x l < ∣ l ∣
+has-index : (x : ℕ) (l : List Entry) → has x l ≡ true → index x l < ∣ l ∣
 has-index x [] h = absurd (false≢true h)
 has-index x (e ∷ l) h = go (eqb (e .page) x) h (has-index x l)
   where
@@ -19,7 +19,7 @@ has-index x (e ∷ l) h = go (eqb (e .page) x) h (has-index x l)
     go true h i = omega arith
     go false h i = let j = i h in omega arith
 
-pub lacks-index-length : (x : ℕ) (l : List Entry) → has x l ≡ false → index x l ≡ ∣ l ∣
+lacks-index-length : (x : ℕ) (l : List Entry) → has x l ≡ false → index x l ≡ ∣ l ∣
 lacks-index-length x [] h = refl
 lacks-index-length x (e ∷ l) h = go (eqb (e .page) x) h (lacks-index-length x l)
   where

@@ -111,7 +111,7 @@ list-with (suc zero) l d = refl
 list-with (suc (suc zero)) l d = refl
 list-with (suc (suc (suc i))) l d = refl
 
-pub with-its-own : (i : ℕ) (d : Directory) → withList (nameOf i) (listOf (nameOf i) d) d ≡ d
+with-its-own : (i : ℕ) (d : Directory) → withList (nameOf i) (listOf (nameOf i) d) d ≡ d
 with-its-own zero d = refl
 with-its-own (suc zero) d = refl
 with-its-own (suc (suc zero)) d = refl

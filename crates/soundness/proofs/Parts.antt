@@ -41,7 +41,10 @@ module _ {w : List ℕ} (h : WordsHeld w) where
       stands [] (listed d) [] (sym (append-nil (listed d))) (omega arith) (simp length-append (omega (arith, lengths)))
 
   list-stands : (i : ℕ) → i ≤ 3 → Stands w (startOf i w) (getD w (4 + i) 0) (listOf (nameOf i) d)
-  list-stands i known = record { there = Reading.list-held d w (h .is) i known; many = sym (length-of-list i d w (h .is) known) }
+  list-stands i known = record {
+    there = Reading.list-held d w (h .is) i known;
+    many = sym (length-of-list i d w (h .is) known);
+  }
 
   pub t2-stands : Stands w (8 + 2 * nT1 w) (nT2 w) (d .t2)
   t2-stands = list-stands 1 (omega arith)
@@ -54,8 +57,8 @@ module _ {w : List ℕ} (h : WordsHeld w) where
 
   pub history-stands : Stands w (8 + 2 * (nT1 w + nT2 w)) (nB1 w + nB2 w) (d .b1 ++ d .b2)
   history-stands =
-      stands (d .t1 ++ d .t2) (d .b1 ++ d .b2) [] (simp (append-assoc, append-nil)) (simp length-append (omega (arith, lengths)))
-      (simp length-append (omega (arith, lengths)))
+      stands (d .t1 ++ d .t2) (d .b1 ++ d .b2) [] (simp (append-assoc, append-nil))
+      (simp length-append (omega (arith, lengths))) (simp length-append (omega (arith, lengths)))
 
 -- The S and the L of it are all of it.
 pub filters : {w : List ℕ} {a n : ℕ} {l : List Entry} → Stands w a n l → total short l + total long l ≡ n

@@ -34,7 +34,8 @@ module _ (w : List ℕ) (h : sound w ≡ true) where
   sound-zeros = let said = simp reads at h in search
 
 -- the first three make the words those of a directory,
-module _ {w : List ℕ} (o : Orderly w) (sizes : sizesFit w ≡ true) (flags : flagsKnown w ≡ true) (zeros : restZero w ≡ true) where
+module _ {w : List ℕ} (o : Orderly w)
+    (sizes : sizesFit w ≡ true) (flags : flagsKnown w ≡ true) (zeros : restZero w ≡ true) where
   pub held : WordsHeld w
   held = let said = simp reads at sizes in record {
     orderly = o;

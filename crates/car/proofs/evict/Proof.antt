@@ -4,7 +4,7 @@ use mathlib.Core.Path.{refl}
 use Rattle.figures.specs.Words.{decode}
 use Rattle.figures.specs.Hand.{begin}
 use Rattle.engine.specs.Shown.{Counts}
-use Rattle.car.proofs.Filled.{held, begins, evicted-as}
+use Rattle.car.proofs.Evicting.{held, begins, evicted-as}
 use Rattle.car.proofs.evict.Statement.{statement}
 use Rattle.car.proofs.evict.Tie as tie
 

@@ -3,7 +3,8 @@ use mathlib.Core.Path.{sym, _∙_}
 use native.Mathlib.Omega.{arith}
 use borrow.Author.Needs.{needs}
 use Rattle.directory.proofs.Serving.{ready}
-use Rattle.directory.proofs.Requesting.{accepted-sound, requested-refused, requested-served}
+use Rattle.directory.proofs.Refused.{accepted-sound}
+use Rattle.directory.proofs.Requesting.{requested-refused, requested-served}
 use Rattle.directory.proofs.request.Statement.{statement}
 use Rattle.directory.proofs.request.Tie as tie
 

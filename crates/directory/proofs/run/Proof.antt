@@ -3,7 +3,7 @@ use mathlib.Core.Path.{sym, _∙_}
 use native.Mathlib.Omega.{arith}
 use borrow.Author.Needs.{needs}
 use Rattle.directory.proofs.Serving.{ready}
-use Rattle.directory.proofs.Requesting.{accepted-sound}
+use Rattle.directory.proofs.Refused.{accepted-sound}
 use Rattle.directory.proofs.Running.{run-refused, run-too-many, run-short, run-served}
 use Rattle.directory.proofs.run.Statement.{statement}
 use Rattle.directory.proofs.run.Tie as tie
