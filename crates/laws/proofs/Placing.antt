@@ -9,11 +9,11 @@ use lib.Dec.{eqb}
 use borrow.Author.Tests.{eqb-true}
 use Rattle.terms.specs.Choice.{∣_∣}
 use Rattle.terms.proofs.Choice.{by-test, either}
-use Rattle.figures.specs.Entry.{Entry, newShort, bits, total, has, mark, without}
+use Rattle.figures.specs.Entry.{Entry, newShort, marked, bits, total, has, mark, without}
 use Rattle.figures.specs.Directory.{Directory, T1, T2, withLists, withList, hit, placeNew}
 use Rattle.figures.specs.Directory.{cached, remembered, inCache}
 use Rattle.figures.specs.Sound.{Bounds}
-use Rattle.laws.proofs.Lists.{is, one, length-counts, length-tail, length-marked, length-without}
+use Rattle.laws.proofs.Lists.{is, one, length-counts, length-tail, length-without}
 use Rattle.laws.proofs.Lists.{total-tail, total-at-most, total-marked-same, total-without}
 use Rattle.laws.proofs.Lists.{has-counts, lacks-counts, counts-has, count-without, is-itself, is-at-most-one}
 use Rattle.laws.proofs.Facts.{inHistory, cached-counts, remembered-counts, Shared, Left, Opened, Trimmed}
@@ -54,44 +54,38 @@ pub hit-either : (P : Directory → Type 0) (x : ℕ) (d : Directory)
     → P (withList T1 (mark x (d .t1)) d) → P (withList T2 (mark x (d .t2)) d) → P (hit x d)
 hit-either P x d in-T1 in-T2 = either P (has x (d .t1)) in-T1 in-T2
 
--- T1 and T2 hold the same pages afterwards.
-module _ (d : Directory) (shared : Shared d) where
-  same-pages-keep : (t1 t2 : List Entry) → ∣ t1 ∣ ≡ ∣ d .t1 ∣ → ∣ t2 ∣ ≡ ∣ d .t2 ∣
-      → ((y : ℕ) → total (is y) t1 ≡ total (is y) (d .t1)) → ((y : ℕ) → total (is y) t2 ≡ total (is y) (d .t2))
-      → Shared (withLists t1 t2 (d .b1) (d .b2) d)
-  same-pages-keep t1 t2 m n pages1 pages2 = record {
-    bounds = shared .bounds;
-    cache-fits = omega (arith, shared .cache-fits);
-    history-fits = shared .history-fits;
-    room-no-history = λ room. shared .room-no-history (omega arith);
-    pages-differ = λ y. omega (arith, shared .pages-differ y, pages1 y, pages2 y);
-    history-clear = shared .history-clear;
-  }
-
-  hit-keeps : (x : ℕ) → Shared (hit x d)
-  hit-keeps x =
-      hit-either Shared x d
-      (same-pages-keep (mark x (d .t1)) (d .t2) (length-marked x (d .t1)) refl (marked-same (d .t1)) (λ y. refl))
-      (same-pages-keep (d .t1) (mark x (d .t2)) refl (length-marked x (d .t2)) (λ y. refl) (marked-same (d .t2)))
-    where
-      marked-same : (l : List Entry) (y : ℕ) → total (is y) (mark x l) ≡ total (is y) l
-      marked-same l y = total-marked-same (is y) (λ e. refl) x l
-
-hit-cached : (x : ℕ) (d : Directory) → inCache (is x) (hit x d) ≡ inCache (is x) d
-hit-cached x d =
-    hit-either (λ d′. inCache (is x) d′ ≡ inCache (is x) d) x d
-    (omega (arith, total-marked-same (is x) (λ e. refl) x (d .t1)))
-    (omega (arith, total-marked-same (is x) (λ e. refl) x (d .t2)))
+-- T1 and T2 hold the same pages afterwards: all that a bit does not count for is as it was.
+same-pages-leave : {Own : Directory → Type 0} (x : ℕ) (d : Directory) (t1 t2 : List Entry) → Shared d
+    → 1 ≤ inCache (is x) d
+    → ((count : Entry → ℕ) → ((e : Entry) → count (marked e) ≡ count e)
+    → total count t1 + total count t2 ≡ inCache count d)
+    → let d′ = withLists t1 t2 (d .b1) (d .b2) d in Own d′ → Left Own x d d′
+same-pages-leave x d t1 t2 s found same own =
+    let size : ∣ t1 ∣ + ∣ t2 ∣ ≡ cached d =
+    omega (arith, same one (λ e. refl), length-counts t1, length-counts t2, cached-counts d) in
+    record {
+      shared = record {
+        bounds = s .bounds;
+        cache-fits = omega (arith, s .cache-fits);
+        history-fits = s .history-fits;
+        room-no-history = λ room. s .room-no-history (omega arith);
+        pages-differ = λ y. omega (arith, s .pages-differ y, same (is y) (λ e. refl));
+        history-clear = s .history-clear;
+      };
+      own = own;
+      is-cached = omega (arith, same (is x) (λ e. refl));
+      same-policy = refl;
+      same-c = refl;
+    }
 
 pub hit-leaves : {Own : Directory → Type 0} (x : ℕ) (d : Directory) → Shared d → 1 ≤ inCache (is x) d → Own (hit x d)
     → Left Own x d (hit x d)
-hit-leaves x d shared found own = record {
-  shared = hit-keeps d shared x;
-  own = own;
-  is-cached = omega (arith, hit-cached x d);
-  same-policy = hit-either (λ d′. d′ .policy ≡ d .policy) x d refl refl;
-  same-c = hit-either (λ d′. d′ .c ≡ d .c) x d refl refl;
-}
+hit-leaves {Own} x d s found =
+    hit-either (λ d′. Own d′ → Left Own x d d′) x d
+    (same-pages-leave x d (mark x (d .t1)) (d .t2) s found
+    (λ count unread. omega (arith, total-marked-same count unread x (d .t1))))
+    (same-pages-leave x d (d .t1) (mark x (d .t2)) s found
+    (λ count unread. omega (arith, total-marked-same count unread x (d .t2))))
 
 -- A NEW PAGE
 

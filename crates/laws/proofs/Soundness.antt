@@ -1,5 +1,5 @@
 -- The test of soundness says of a directory's words just what Facts says of its value.
--- `simp reads` of Encoding turns the test into facts, and facts into the test.
+-- `simp says`, below, turns the test into facts, and facts into the test.
 use mathlib.Core.Path.{_≡_, refl}
 use mathlib.Core.Bool.{Bool, true, false}
 use mathlib.Core.Logic.{_↔_}
