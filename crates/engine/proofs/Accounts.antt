@@ -3,15 +3,14 @@
 use mathlib.Core.Path.{_≡_, ap}
 use mathlib.Core.Bool.{true, false}
 use mathlib.Core.List.{List, _∷_}
-use Prim.Native.Nat.{ℕ, _+_, _-_, _*_, _≤_, min}
+use Prim.Native.Nat.{ℕ, _+_, _-_, _≤_}
 use native.Mathlib.Omega.{arith}
-use lib.Dec.{leb}
 use Rattle.terms.specs.Choice.{∣_∣}
-use Rattle.terms.proofs.Choice.{either}
 use Rattle.figures.specs.Entry.{Entry, L, cleared, isLong, bits, short, long, total}
-use Rattle.figures.specs.Directory.{Directory, T1, T2, withList, withQ, toTail, cached}
+use Rattle.figures.specs.Directory.{Directory, T1, T2, withList, toTail, cached}
 use Rattle.figures.specs.Cart.{cost, raise, lower}
 use Rattle.laws.proofs.Entries.{set-bits, clear-bits, short-filter, long-filter, is-short}
+use Rattle.laws.proofs.Cart.{raise-leaves}
 use Rattle.laws.proofs.Lists.{length-tail, total-tail, short-or-long, short-and-long}
 use Rattle.engine.specs.declared.counts.ShortCount.{ShortCount}
 use Rattle.engine.specs.declared.counts.LongCount.{LongCount}
@@ -85,13 +84,9 @@ module _ (d : Directory) (e : Entry) (es : List Entry) {k : Kept} where
 
 -- The changes of q.
 module _ {k : Kept} (d : Directory) where
-  with-q : (q : ℕ) → q ≤ 2 * d .c → Accounts d k → Accounts (withQ q d) k
-  with-q q fits a = omega arith
-
   pub raise-keeps : Accounts d k → Accounts (raise (k .short .0) d) k
   raise-keeps a =
-      either (λ d′. Accounts d′ k) (leb (d .c) (∣ d .t2 ∣ + ∣ d .b2 ∣ + ∣ d .t1 ∣ - k .short .0))
-      (with-q (min (d .q + 1) (2 * d .c - ∣ d .t1 ∣)) (omega arith) a) a
+      raise-leaves (λ d′. Accounts d′ k) (k .short .0) d (λ q fits. let q-fits = fits (a .q-fits) in omega arith)
 
   pub lower-keeps : Accounts d k → Accounts (lower d) k
   lower-keeps a = omega arith

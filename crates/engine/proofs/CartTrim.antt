@@ -1,6 +1,6 @@
 -- CART's trim, by its tests: the directory as it was, or without the head of the history that it takes from.
 -- Nothing here is of an engine: each says which directory its memory is to show.
-use mathlib.Core.Path.{_≡_, refl, ap, _∙_}
+use mathlib.Core.Path.{_≡_, refl}
 use mathlib.Core.Bool.{Bool, true, false, _||_}
 use Prim.Native.Nat.{_+_, _≤_}
 use native.Mathlib.Omega.{arith}
@@ -17,25 +17,20 @@ module _ (d : Directory) where
   abbrev oldest : Name
   oldest = oldestOf (d .q) ∣ d .b1 ∣ ∣ d .b2 ∣
 
-  abbrev without-oldest : Directory
-  without-oldest =
-      if ltb (d .q) ∣ d .b1 ∣ || eqb ∣ d .b2 ∣ 0 then withList B1 (dropHead (d .b1)) d
-      else withList B2 (dropHead (d .b2)) d
-
+  -- A choice of a directory is one of the list that it is without the head of.
   named : (t : Bool) → let i = if t then B1 else B2 in
-      (if t then withList B1 (dropHead (d .b1)) d else withList B2 (dropHead (d .b2)) d) ≡ withList i (dropHead (listOf i d)) d
+      (if t then withList B1 (dropHead (d .b1)) d else withList B2 (dropHead (d .b2)) d)
+      ≡ withList i (dropHead (listOf i d)) d
   named true = refl
   named false = refl
 
   pub trims : remembered d ≡ d .c + 1 → trim d ≡ withList oldest (dropHead (listOf oldest d)) d
   unfolding trim
-  trims full =
-      ap (λ (b : Bool). if b then without-oldest else d) (eq-eqb (remembered d) (d .c + 1) full)
-      ∙ named (ltb (d .q) ∣ d .b1 ∣ || eqb ∣ d .b2 ∣ 0)
+  trims full = rw (eq-eqb (remembered d) (d .c + 1) full) (named (ltb (d .q) ∣ d .b1 ∣ || eqb ∣ d .b2 ∣ 0))
 
   pub trims-not : ¬ (remembered d ≡ d .c + 1) → trim d ≡ d
   unfolding trim
-  trims-not fits = ap (λ (b : Bool). if b then without-oldest else d) (ne-eqb (remembered d) (d .c + 1) fits)
+  trims-not fits = rw (ne-eqb (remembered d) (d .c + 1) fits)
 
   -- Where the histories hold a page, the one that it takes from has a head.
   pub oldest-has-head : 1 ≤ remembered d → 1 ≤ ∣ listOf oldest d ∣

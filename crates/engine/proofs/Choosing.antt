@@ -2,7 +2,7 @@
 -- Over what memory shows, and over the chosen clock.
 use mathlib.Core.Path.{_≡_, refl, ap, _∙_}
 use mathlib.Core.Bool.{Bool, true, false}
-use mathlib.Core.List.{List}
+use mathlib.Core.List.{List, [], _∷_, _++_}
 use Prim.Native.Nat.{ℕ, _+_, _≤_, _<_}
 use native.Mathlib.Omega.{arith}
 use borrow.Author.Tests.{leb-true, leb-false}
@@ -62,7 +62,8 @@ module _ {k : Counted} (d : Directory) (r : CarReady d k) where
   pub chosen-some : (i : Name) → i ≡ chosen d → 1 ≤ ∣ listOf i d ∣
   chosen-some i is =
       rw is
-      (by-test (λ (i : Name). 1 ≤ ∣ listOf i d ∣) (t1AtTarget d) (λ test. omega (arith, leb-true)) (λ test. omega (arith, leb-false)))
+      (by-test (λ (i : Name). 1 ≤ ∣ listOf i d ∣) (t1AtTarget d)
+      (λ test. omega (arith, leb-true)) (λ test. omega (arith, leb-false)))
 
   -- A head with its bit set becomes T2's tail: a set bit less, and a move more.
   abbrev TurnedReady : Name → Type 0
@@ -71,34 +72,24 @@ module _ {k : Counted} (d : Directory) (r : CarReady d k) where
   turned-ready : (i : Name) → i ≡ chosen d → frontOf (listOf i d) .bit ≡ true → TurnedReady i
   turned-ready i is =
       rw is (by-test (λ (i : Name). frontOf (listOf i d) .bit ≡ true → TurnedReady i) (t1AtTarget d)
-      (λ test set. from-t1 (omega (arith, leb-true)) set)
-      (λ test set. from-t2 (omega (arith, leb-false)) set))
+      (λ test set. omega (arith, moved (d .t1) (d .t2) (omega (arith, leb-true)) set))
+      (λ test set. omega (arith, moved (d .t2) (dropHead (d .t2)) (omega (arith, leb-false)) set)))
     where
-      from-t1 : 1 ≤ ∣ d .t1 ∣ → frontOf (d .t1) .bit ≡ true → TurnedReady T1
-      from-t1 some set =
-          let front = some-front (d .t1) some in
-          let e = frontOf (d .t1) in
+      -- What the clock l has without its head, and T2, which was t2 then, with it.
+      moved : (l t2 : List Entry) → 1 ≤ ∣ l ∣ → frontOf l .bit ≡ true
+          → let t2′ = t2 ++ (cleared (frontOf l) ∷ []) in
+          (∣ l ∣ ≡ 1 + ∣ dropHead l ∣) × (total bits l ≡ 1 + total bits (dropHead l)) × (∣ t2′ ∣ ≡ ∣ t2 ∣ + 1)
+          × (total bits t2′ ≡ total bits t2)
+      moved l t2 some set =
+          let front = some-front l some in
+          let e = frontOf l in
           omega (
             arith,
             ap ∣_∣ front,
             ap (total bits) front,
             set-bits e set,
-            length-tail (d .t2) (cleared e),
-            total-tail bits (d .t2) (cleared e),
-          )
-
-      from-t2 : 1 ≤ ∣ d .t2 ∣ → frontOf (d .t2) .bit ≡ true → TurnedReady T2
-      from-t2 some set =
-          let front = some-front (d .t2) some in
-          let e = frontOf (d .t2) in
-          let es = dropHead (d .t2) in
-          omega (
-            arith,
-            ap ∣_∣ front,
-            ap (total bits) front,
-            set-bits e set,
-            length-tail es (cleared e),
-            total-tail bits es (cleared e),
+            length-tail t2 (cleared e),
+            total-tail bits t2 (cleared e),
           )
 
 -- THE LOOK OF AN ENGINE
@@ -134,7 +125,8 @@ module _ {W : Type 0} {Shows : Directory → W → Type 0} {w w₁ : W} {k : Cou
         }
 
   -- At a clear one it ends: the head is demoted.
-  pub stops-here : {page list : ℕ} → list ≡ listWord i → ((d : Directory) → Shows d w → frontOf (listOf i d) .bit ≡ false)
+  pub stops-here : {page list : ℕ} → list ≡ listWord i
+      → ((d : Directory) → Shows d w → frontOf (listOf i d) .bit ≡ false)
       → ((d : Directory) → Shows d w → page ≡ frontOf (listOf i d) .page)
       → Makes Shows (headTo i (historyOf i) demoted) w w₁
       → EndsFrom Shows w k (record { page = page; list = list; hand = demotedOnce k }) w₁

@@ -8,8 +8,8 @@ use native.Mathlib.Omega.{arith}
 use borrow.Author.Tests.{leb-true, leb-false}
 use Rattle.terms.specs.Choice.{∣_∣}
 use Rattle.figures.specs.Entry.{Entry, demoted}
-use Rattle.figures.specs.Directory.{Directory, unit, T1, T2, B1, B2, withList, toTail, t1AtTarget}
-use Rattle.figures.specs.Hand.{Hand, withCounts, demote}
+use Rattle.figures.specs.Directory.{Directory, unit, Name, T1, T2, B1, B2, withList, toTail, t1AtTarget}
+use Rattle.figures.specs.Hand.{Hand, listWord, withCounts, demote}
 use Rattle.figures.specs.Cart.{demotion}
 use Rattle.engine.specs.declared.counts.Kept.{Kept}
 use Rattle.engine.specs.declared.counts.Evicted.{Evicted}
@@ -30,29 +30,27 @@ evictedAs page list nS nL k = record {
   long = record { 0 = nL };
 }
 
-module _ (h : Hand) (e : Entry) (es : List Entry) where
-  from-t1 : t1AtTarget (h .dir) ≡ true → h .dir .t1 ≡ e ∷ es → demotion h ≡ withCounts (h .nS - 1) (h .nL) (demote T1 B1 e es h)
-  from-t1 test front = rw (test, front)
+module _ {W : Type 0} {Shows : Directory → W → Type 0} {w w₁ : W} {k : Kept} (h : Hand) (e : Entry) (es : List Entry)
+    {page : ℕ} (holds : ShowsHand Shows h w k) (page-is : page ≡ e .page) where
+  -- What is shown and answered where e goes from list i to the history j, and n_S and n_L are these then.
+  demotes : (i j : Name) (nS nL : ℕ) {short long : ℕ} → demotion h ≡ withCounts nS nL (demote i j e es h)
+      → short ≡ nS → long ≡ nL → Shows (toTail j (demoted e) (withList i es (h .dir))) w₁
+      → EvictedWithCounts Shows (demotion h) (evictedAs page (listWord i) short long k) w₁
+  demotes i j nS nL is short-is long-is shown =
+      rw is (record {
+        evicted = record { page-is = page-is; list-is = refl; counts = omega (arith, holds .keeps); shown = shown };
+        short-is = short-is;
+        long-is = long-is;
+      })
 
-  from-t2 : t1AtTarget (h .dir) ≡ false → h .dir .t2 ≡ e ∷ es → demotion h ≡ withCounts (h .nS) (h .nL - 1) (demote T2 B2 e es h)
-  from-t2 test front = rw (test, front)
-
-module _ {W : Type 0} {Shows : Directory → W → Type 0} {w w₁ : W} {k : Kept} (h : Hand) (e : Entry) (es : List Entry) {page : ℕ}
-    (holds : ShowsHand Shows h w k) (page-is : page ≡ e .page) where
-  pub demotes-T1 : t1AtTarget (h .dir) ≡ true → h .dir .t1 ≡ e ∷ es → Shows (toTail B1 (demoted e) (withList T1 es (h .dir))) w₁
+  pub demotes-T1 : t1AtTarget (h .dir) ≡ true → h .dir .t1 ≡ e ∷ es
+      → Shows (toTail B1 (demoted e) (withList T1 es (h .dir))) w₁
       → EvictedWithCounts Shows (demotion h) (evictedAs page 1 (k .short .0 - 1) (k .long .0) k) w₁
   demotes-T1 test front shown =
-      rw (from-t1 h e es test front) (record {
-        evicted = record { page-is = page-is; list-is = refl; counts = omega (arith, holds .keeps); shown = shown };
-        short-is = omega (arith, holds .keeps);
-        long-is = holds .keeps .long-is;
-      })
+      demotes T1 B1 (h .nS - 1) (h .nL) (rw (test, front)) (omega (arith, holds .keeps)) (holds .keeps .long-is) shown
 
-  pub demotes-T2 : t1AtTarget (h .dir) ≡ false → h .dir .t2 ≡ e ∷ es → Shows (toTail B2 (demoted e) (withList T2 es (h .dir))) w₁
+  pub demotes-T2 : t1AtTarget (h .dir) ≡ false → h .dir .t2 ≡ e ∷ es
+      → Shows (toTail B2 (demoted e) (withList T2 es (h .dir))) w₁
       → EvictedWithCounts Shows (demotion h) (evictedAs page 2 (k .short .0) (k .long .0 - 1) k) w₁
   demotes-T2 test front shown =
-      rw (from-t2 h e es test front) (record {
-        evicted = record { page-is = page-is; list-is = refl; counts = omega (arith, holds .keeps); shown = shown };
-        short-is = holds .keeps .short-is;
-        long-is = omega (arith, holds .keeps);
-      })
+      demotes T2 B2 (h .nS) (h .nL - 1) (rw (test, front)) (holds .keeps .short-is) (omega (arith, holds .keeps)) shown

@@ -6,11 +6,11 @@ use mathlib.Core.List.{List, [], _∷_}
 use Prim.Native.Nat.{ℕ, _+_, _-_, _*_, min}
 use native.Mathlib.Omega.{arith}
 use lib.Dec.{leb}
-use Rattle.terms.specs.Choice.{if_then_else_, ∣_∣}
+use Rattle.terms.specs.Choice.{∣_∣}
 use Rattle.figures.specs.Entry.{Entry, Filter, S, L, cleared, madeLong, isLong, short, total, dropHead}
 use Rattle.figures.specs.Directory.{Directory, unit, T1, T2}
 use Rattle.figures.specs.Hand.{Hand, withDir, withCounts, turn, Look, again, stop}
-use Rattle.figures.specs.Cart.{raise, lower, becomesLong, passT1, settle, ifLong, lookT1, lookT2, firstLook, secondLook}
+use Rattle.figures.specs.Cart.{raise, lower, becomesLong, passT1, lookT1, lookT2, firstLook, secondLook}
 use Rattle.laws.proofs.Entries.{set-bits, clear-bits, short-filter, is-long, is-short}
 use Rattle.laws.proofs.Lists.{length-tail}
 use Rattle.engine.specs.declared.counts.ShortCount.{ShortCount}
@@ -57,15 +57,14 @@ module _ (h : Hand) (e : Entry) (es : List Entry) where
 
   -- Its bit set: by its filter.
   passes : h .dir .t1 ≡ e ∷ es → e .bit ≡ true → secondLook h ≡ again (passT1 (e .filter) e es h)
-  passes front set =
-      ap (λ (l : List Entry). lookT1 l h) front
-      ∙ ap (λ (b : Bool). if b then again (passT1 (e .filter) e es h) else ifLong (e .filter) (again (settle e es h)) (stop h)) set
+  passes front set = rw (front, set)
 
   rounds : h .dir .t1 ≡ e ∷ es → e .bit ≡ true → (isLong (e .filter) ≡ false → becomesLong (h .dir) ≡ false)
       → secondLook h ≡ again (turn T1 T1 cleared e es h)
   rounds front set stays = passes front set ∙ ap again (go (e .filter) stays)
     where
-      go : (f : Filter) → (isLong f ≡ false → becomesLong (h .dir) ≡ false) → passT1 f e es h ≡ turn T1 T1 cleared e es h
+      go : (f : Filter) → (isLong f ≡ false → becomesLong (h .dir) ≡ false)
+          → passT1 f e es h ≡ turn T1 T1 cleared e es h
       go S stays = rw (test-after-turn front ∙ stays refl)
       go L stays = refl
 
@@ -76,12 +75,14 @@ module _ (h : Hand) (e : Entry) (es : List Entry) where
 
 module _ {W : Type 0} (Shows : Directory → W → Type 0) where
   -- A move that a change of q follows, or nothing: what holds between the two, and what both make together.
-  pub record Moved (look : Hand → Look) (change : Directory → Directory) (w : W) (k : Kept) (w₁ : W) (k′ : Kept) : Type 0 where
+  pub record Moved (look : Hand → Look) (change : Directory → Directory) (w : W) (k : Kept) (w₁ : W) (k′ : Kept)
+      : Type 0 where
     pub between : Passing Shows w₁ k′
     pub looked : (w₂ : W) → Makes Shows change w₁ w₂ → Looked Shows look w k w₂ k′
 
   -- The same of one hand h that is shown.
-  record Step (look : Hand → Look) (change : Directory → Directory) (k : Kept) (w₁ : W) (k′ : Kept) (h : Hand) : Type 0 where
+  record Step (look : Hand → Look) (change : Directory → Directory) (k : Kept) (w₁ : W) (k′ : Kept) (h : Hand)
+      : Type 0 where
     at : Hand
     turns : look h ≡ again (withDir (change (at .dir)) at)
     shown : Shows (at .dir) w₁
@@ -101,7 +102,8 @@ module _ {W : Type 0} {Shows : Directory → W → Type 0} {w : W} {k : Kept} (p
     list = 0;
   }
 
-  moved-by : {w₁ : W} {look : Hand → Look} {change : Directory → Directory} (nS : ShortCount) (nL : LongCount) (bits : ℕ)
+  moved-by : {w₁ : W} {look : Hand → Look} {change : Directory → Directory}
+      → (nS : ShortCount) (nL : LongCount) (bits : ℕ)
       → ((d : Directory) → Accounts d (afterMove nS nL bits k) → Accounts (change d) (afterMove nS nL bits k))
       → ((h : Hand) → ShowsHand Shows h w k → Step Shows look change k w₁ (afterMove nS nL bits k) h)
       → Moved Shows look change w k w₁ (afterMove nS nL bits k)
@@ -109,11 +111,12 @@ module _ {W : Type 0} {Shows : Directory → W → Type 0} {w : W} {k : Kept} (p
       let shown : ShowsHand Shows shown-hand w k =
       record { shown = p .shown; keeps = omega arith } in
       let s = steps shown-hand shown in
+      let d = s .at .dir in
       let between = s .accounts (p .accounts) in
       record {
-        between = record { dir = s .at .dir; shown = s .shown; accounts = between };
+        between = record { dir = d; shown = s .shown; accounts = between };
         looked = λ w₂ makes. record {
-          passing = record { dir = change (s .at .dir); shown = makes (s .at .dir) (s .shown); accounts = keeps (s .at .dir) between };
+          passing = record { dir = change d; shown = makes d (s .shown); accounts = keeps d between };
           one-move = refl;
           turned = λ h holds.
               let t = steps h holds in
@@ -125,7 +128,9 @@ module _ {W : Type 0} {Shows : Directory → W → Type 0} {w : W} {k : Kept} (p
         };
       }
 
-  pub first-looks : {w₁ : W} → ((d : Directory) → Shows d w → frontOf (d .t2) .bit ≡ true) → Makes Shows (headTo T2 T1 cleared) w w₁
+  -- T2's head, its bit set.
+  pub first-looks : {w₁ : W} → ((d : Directory) → Shows d w → frontOf (d .t2) .bit ≡ true)
+      → Makes Shows (headTo T2 T1 cleared) w w₁
       → Moved Shows firstLook (raise (k .short .0)) w k w₁ (afterMove (k .short) (k .long) (k .hand .cleared + 1) k)
   first-looks set makes =
       moved-by (k .short) (k .long) (k .hand .cleared + 1) raise-keeps
@@ -171,28 +176,36 @@ module _ {W : Type 0} {Shows : Directory → W → Type 0} {w : W} {k : Kept} (p
       moved-by (k .short) (k .long) (k .hand .cleared + 1) (λ d a. a)
       (λ h holds.
       let l = h .dir .t1 in
+      let e = frontOf l in
       let is-set = set (h .dir) (holds .shown) in
       let front = set-front l is-set in
       record {
-        at = turn T1 T1 cleared (frontOf l) (dropHead l) h;
-        turns = rounds h (frontOf l) (dropHead l) front is-set (stays (h .dir) (holds .shown));
+        at = turn T1 T1 cleared e (dropHead l) h;
+        turns = rounds h e (dropHead l) front is-set (stays (h .dir) (holds .shown));
         shown = makes (h .dir) (holds .shown);
-        keeps = omega (arith, holds .keeps, set-bits (frontOf l) is-set);
-        accounts = t1-round (h .dir) (frontOf l) (dropHead l) (cleared (frontOf l)) (k .short) (k .long) front is-set refl refl refl;
+        keeps = omega (arith, holds .keeps, set-bits e is-set);
+        accounts = t1-round (h .dir) e (dropHead l) (cleared e) (k .short) (k .long) front is-set refl refl refl;
       })
 
-  pub look-makes-long : {w₁ : W} → ((d : Directory) → Shows d w → (frontOf (d .t1) .bit ≡ true) × (isLong (frontOf (d .t1) .filter) ≡ false))
-      → ((d : Directory) → Shows d w → becomesLong d ≡ true) → Makes Shows (headTo T1 T1 (λ e. madeLong (cleared e))) w w₁
-      → Moved Shows secondLook (λ d. d) w k w₁ (afterMove (record { 0 = k .short .0 - 1 }) (record { 0 = k .long .0 + 1 }) (k .hand .cleared + 1) k)
+  abbrev oneShortLess : ShortCount
+  oneShortLess = record { 0 = k .short .0 - 1 }
+
+  abbrev oneLongMore : LongCount
+  oneLongMore = record { 0 = k .long .0 + 1 }
+
+  pub look-makes-long : {w₁ : W}
+      → ((d : Directory) → Shows d w → let e = frontOf (d .t1) in (e .bit ≡ true) × (isLong (e .filter) ≡ false))
+      → ((d : Directory) → Shows d w → becomesLong d ≡ true)
+      → Makes Shows (headTo T1 T1 (λ e. madeLong (cleared e))) w w₁
+      → Moved Shows secondLook (λ d. d) w k w₁ (afterMove oneShortLess oneLongMore (k .hand .cleared + 1) k)
   look-makes-long short-set long makes =
-      let nS : ShortCount = record { 0 = k .short .0 - 1 } in
-      let nL : LongCount = record { 0 = k .long .0 + 1 } in
-      moved-by nS nL (k .hand .cleared + 1) (λ d a. a)
+      moved-by oneShortLess oneLongMore (k .hand .cleared + 1) (λ d a. a)
       (λ h holds.
       let l = h .dir .t1 in
       let e = frontOf l in
       let is = short-set (h .dir) (holds .shown) in
       let short-is = is-short (e .filter) (is .1) in
+      let counts = short-filter e short-is in
       let front = set-front l (is .0) in
       record {
         at = withCounts (h .nS - 1) (h .nL + 1) (turn T1 T1 (λ e. madeLong (cleared e)) e (dropHead l) h);
@@ -200,8 +213,8 @@ module _ {W : Type 0} {Shows : Directory → W → Type 0} {w : W} {k : Kept} (p
         shown = makes (h .dir) (holds .shown);
         keeps = omega (arith, holds .keeps, set-bits e (is .0));
         accounts = λ a.
-            t1-round (h .dir) e (dropHead l) (madeLong (cleared e)) nS nL front (is .0) refl
-            (omega (arith, ap (total short) front, short-filter e short-is, a .shorts)) (omega (arith, short-filter e short-is)) a;
+            t1-round (h .dir) e (dropHead l) (madeLong (cleared e)) oneShortLess oneLongMore front (is .0) refl
+            (omega (arith, ap (total short) front, a .shorts)) (omega arith) a;
       })
 
 -- Where the passes stop.

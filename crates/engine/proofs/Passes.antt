@@ -25,7 +25,8 @@ module _ {W : Type 0} {Shows : Directory → W → Type 0} {look : Hand → Look
   pub begins : Underway Shows look w₀ k₀ w₀ k₀
   begins = record { reached = λ h holds. record { at = h; rest = λ z ends. ends; holds = holds } }
 
-  pub goes-on : {w w′ : W} {k k′ : Kept} → Underway Shows look w₀ k₀ w k → Looked Shows look w k w′ k′ → Underway Shows look w₀ k₀ w′ k′
+  pub goes-on : {w w′ : W} {k k′ : Kept} → Underway Shows look w₀ k₀ w k → Looked Shows look w k w′ k′
+      → Underway Shows look w₀ k₀ w′ k′
   goes-on u l = record {
     reached = λ h holds.
         let r = u .reached h holds in
@@ -33,8 +34,8 @@ module _ {W : Type 0} {Shows : Directory → W → Type 0} {look : Hand → Look
         record { at = t .at; rest = λ z ends. r .rest z (next (t .turns) ends); holds = t .holds };
   }
 
-  pub ends-here : {w : W} {k : Kept} → Underway Shows look w₀ k₀ w k → ((h : Hand) → ShowsHand Shows h w k → look h ≡ stop h)
-      → PassEnds Shows look w₀ k₀ w k
+  pub ends-here : {w : W} {k : Kept} → Underway Shows look w₀ k₀ w k
+      → ((h : Hand) → ShowsHand Shows h w k → look h ≡ stop h) → PassEnds Shows look w₀ k₀ w k
   ends-here u stops h holds =
       let r = u .reached h holds in
       record { at = r .at; ends = r .rest (r .at) (last (stops (r .at) (r .holds))); holds = r .holds }
@@ -44,8 +45,9 @@ ended-at : {look : Hand → Look} {h z : Hand} {Q : Hand → Type 0} → Ends lo
 ended-at ends e = rw (ends-once (e .ends) ends) at (e .holds)
 
 -- Both passes of an engine end where the definition's do.
-pub passes-end : {W : Type 0} {Shows : Directory → W → Type 0} {d : Directory} {w w₁ w₂ : W} {k k₁ k₂ : Kept} → CartStops d
-    → ShowsHand Shows (counted d) w k → PassEnds Shows firstLook w k w₁ k₁ → PassEnds Shows secondLook w₁ k₁ w₂ k₂
+pub passes-end : {W : Type 0} {Shows : Directory → W → Type 0} {d : Directory} {w w₁ w₂ : W} {k k₁ k₂ : Kept}
+    → CartStops d → ShowsHand Shows (counted d) w k
+    → PassEnds Shows firstLook w k w₁ k₁ → PassEnds Shows secondLook w₁ k₁ w₂ k₂
     → ShowsHand Shows (secondPass (firstPass (counted d))) w₂ k₂
 passes-end stops begins first second =
     ended-at (stops .second) (second _ (ended-at (stops .first) (first _ begins)))

@@ -1,6 +1,6 @@
 -- A page placed after the evict part: the answer's kind and what the memory shows, by where the page was.
 -- Over the policy, and over what memory shows.
-use mathlib.Core.Path.{_≡_, sym, ap, _∙_, subst}
+use mathlib.Core.Path.{_≡_, sym, _∙_}
 use mathlib.Core.Bool.{true, false}
 use Prim.Native.Nat.{ℕ}
 use Rattle.figures.specs.Entry.{has}
@@ -8,21 +8,20 @@ use Rattle.figures.specs.Directory.{Directory, placeNew}
 use Rattle.figures.specs.Hand.{Hand}
 use Rattle.figures.specs.Policy.{Policy}
 use Rattle.figures.specs.Request.{Served, missed}
-use Rattle.laws.proofs.Requests.{missed-B1, missed-B2, missed-new, missed-page, missed-list, missed-moves, missed-cleared}
+use Rattle.laws.proofs.Requests.{missed-B1, missed-B2, missed-new}
+use Rattle.laws.proofs.Requests.{missed-page, missed-list, missed-moves, missed-cleared}
 use Rattle.engine.specs.declared.Evicted.{Evicted}
 use Rattle.engine.specs.Shown.{servedOf, EvictedAs, PlacedAs, Tells}
 
 module _ {W : Type 0} (Shows : Directory → W → Type 0) (π : Policy) (x : ℕ) (h : Hand) {w : W} where
   placed-as : {s : Served} → missed π x h ≡ s → Shows (s .dir) w → PlacedAs Shows π x h (s .kind) w
-  placed-as e shown = record {
-    kind-is = sym (ap (λ (s : Served). s .kind) e);
-    shown = subst (λ (s : Served). Shows (s .dir) w) (sym e) shown;
-  }
+  placed-as is shown = record { kind-is = rw is; shown = rw is shown }
 
   pub placed-B1 : has x (h .dir .b1) ≡ true → Shows (π .placeB1 x h) w → PlacedAs Shows π x h 3 w
   placed-B1 found shown = placed-as (missed-B1 π x h found) shown
 
-  pub placed-B2 : has x (h .dir .b1) ≡ false → has x (h .dir .b2) ≡ true → Shows (π .placeB2 x h) w → PlacedAs Shows π x h 4 w
+  pub placed-B2 : has x (h .dir .b1) ≡ false → has x (h .dir .b2) ≡ true → Shows (π .placeB2 x h) w
+      → PlacedAs Shows π x h 4 w
   placed-B2 not-b1 found shown = placed-as (missed-B2 π x h not-b1 found) shown
 
   pub placed-new : has x (h .dir .b1) ≡ false → has x (h .dir .b2) ≡ false
