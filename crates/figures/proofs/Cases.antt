@@ -12,7 +12,8 @@ use Rattle.figures.specs.Run.{runFrom}
 use Rattle.figures.specs.Cases.{holds, CasesHold, LimitsHold}
 
 pub cases-hold : CasesHold
-unfolding holds placeNew runFrom serve missed repeat Car.evict Car.trim Car.placeB1 Car.placeB2 Cart.evict Cart.firstPass Cart.secondPass Cart.trim Cart.placeB1 Cart.placeB2
+unfolding holds placeNew runFrom serve missed repeat Car.evict Car.trim Car.placeB1 Car.placeB2
+    Cart.evict Cart.firstPass Cart.secondPass Cart.trim Cart.placeB1 Cart.placeB2
 cases-hold = refl
 
 pub limits-hold : LimitsHold

@@ -1,2 +1,4 @@
--- The cases, by computation. What is promised of the definitions is proved in the crate laws.
+-- The cases of specs/Cases, by computation.
+--
+-- Not here: what specs/Demands promises of the definitions (laws/proofs).
 pub mod Cases

@@ -1,4 +1,4 @@
--- CAR, Figure 2 of Bansal and Modha: evict (its replace(), lines 22 to 39), trim (lines 6 to 10), place (lines 14 to 19).
+-- CAR, Figure 2 of Bansal and Modha: evict, its replace(), lines 22 to 39; trim, lines 6 to 10; place, lines 14 to 19.
 -- Sizes are those at the moment a rule is read; quotients are whole, and the page itself still counts in them.
 use mathlib.Core.Bool.{Bool}
 use mathlib.Core.List.{List, [], _∷_}

@@ -1,4 +1,4 @@
--- CART, Figure 3 of Bansal and Modha: evict (its replace(), lines 23 to 40), trim (lines 6 to 10), place (lines 14 to 20).
+-- CART, Figure 3 of Bansal and Modha: evict, its replace(), lines 23 to 40; trim, lines 6 to 10; place, lines 14 to 20.
 -- n_S and n_L are counted when a request begins and then kept as the figure keeps them.
 use mathlib.Core.Bool.{Bool, _||_}
 use mathlib.Core.List.{List, [], _∷_, _++_}

@@ -68,9 +68,10 @@ WhenFull P = (d : Directory) → Sound d → cached d ≡ d .c → P d
 abbrev pub WhenFullUnder : ℕ → (Directory → Type 0) → Type 0
 WhenFullUnder n P = WhenFull (λ d. d .policy ≡ n → P d)
 
--- "No budget may decide where the defined evict part ends: .. from every sound directory the published stop comes first."
--- The repeat that knows no budget ends where the definition does. CAR's asks for no head that is not there: `Ends` has
--- no rule for that. CART's passes also stop at an empty list; that the demotion has a head is in EvictsOne. [Stops]
+-- "No budget may decide where the defined evict part ends: .. from every sound directory the published stop comes
+-- first." The repeat that knows no budget ends where the definition does. CAR's asks for no head that is not there:
+-- `Ends` has no rule for that. CART's passes also stop at an empty list; that the demotion has a head is in EvictsOne.
+-- [Stops]
 abbrev pub CarStops : Directory → Type 0
 CarStops d = Ends Car.choose (begin 0 0 d) (Car.evict d)
 
@@ -109,7 +110,8 @@ pub record EvictedIsRemembered : Type 0 where
   pub of-car : WhenFullUnder car (λ d. remembered (Car.evict d .dir) ≡ remembered d + 1)
   pub of-cart : WhenFullUnder cart (λ d. remembered (Cart.evict d .dir) ≡ remembered d + 1)
 
--- "n_S and n_L count the S and L pages in T1 and T2", also as Figure 3 has kept them when the evict part is over. [Stops]
+-- "n_S and n_L count the S and L pages in T1 and T2", also as Figure 3 has kept them when the evict part is over.
+-- [Stops]
 abbrev pub CountsKept : Type 0
 CountsKept =
     WhenFullUnder cart (λ d.
@@ -153,7 +155,8 @@ CarMovesAreBitsCleared =
     (x : ℕ) (d : Directory) → Sound d → d .policy ≡ car → 2 ≤ request x d .kind
     → request x d .moves ≡ request x d .cleared + 1
 
--- "no CAR request needs more than c + 1 hand moves, no CART request more than 2c + 1": from every sound directory. [Moves]
+-- "no CAR request needs more than c + 1 hand moves, no CART request more than 2c + 1": from every sound directory.
+-- [Moves]
 abbrev pub mostMoves : Directory → ℕ
 mostMoves d = rowOf d .mostMoves (d .c)
 
@@ -194,7 +197,8 @@ CarRunAtMost = FromFresh (λ c. (trace : List ℕ) → run trace (fresh car c) .
 abbrev pub CartRunAtMost : Type 0
 CartRunAtMost = FromFresh (λ c. (trace : List ℕ) → run trace (fresh cart c) .tally .moves ≤ 2 * ∣ trace ∣)
 
--- "for every c a sequence reaches each single-request bound": the pages 1 to c, the same again, then a new one. [Reached]
+-- "for every c a sequence reaches each single-request bound": the pages 1 to c, the same again, then a new one.
+-- [Reached]
 abbrev pub pagesFrom : ℕ → ℕ → List ℕ
 pagesFrom x zero = []
 pagesFrom x (suc n) = x ∷ pagesFrom (suc x) n

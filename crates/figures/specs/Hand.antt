@@ -96,7 +96,8 @@ onward (again b) a rest = rest b
 onward (stop z) a rest = z
 onward none a rest = a
 
--- The repeat as a function, of at most so many looks. Demands, "the published stop comes first": the number never decides.
+-- The repeat as a function, of at most so many looks. The number never decides: Demands, "the published stop comes
+-- first".
 unfoldable pub repeat : (Hand → Look) → ℕ → Hand → Hand
 repeat look zero a = a
 repeat look (suc k) a = onward (look a) a (repeat look k)

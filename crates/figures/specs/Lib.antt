@@ -1,5 +1,11 @@
 -- Document 01 and Figures 2 and 3, as definitions: read in this order.
 -- With the words of terms/specs, everything the code is proved to do is said here and nowhere else.
+--
+-- In order: an entry, and lists of entries; the directory as a value, and as words; the hand's moves, and the repeat
+-- that they stand in; CAR; CART; a row for each policy; when a directory is sound; one request; a run; the four
+-- operations, with their refusals; cases that are shown by computation; what is promised of all this (`Demands`).
+--
+-- Not here: the limits, and the numbers of policies and refusals (terms/specs); the sheets (sheets/specs).
 pub mod Entry
 pub mod Directory
 pub mod Words

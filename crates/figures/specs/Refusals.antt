@@ -1,4 +1,4 @@
--- The four operations as total functions: of any words, page, trace and buffer, the answer and all lent memory afterwards.
+-- The four operations as total functions of any words, page, trace and buffer: the answer and all lent memory then.
 -- A refused call's answer is its number with zeros elsewhere, and all lent memory stays.
 use mathlib.Core.Bool.{not}
 use mathlib.Core.List.{List, _++_}

@@ -13,15 +13,6 @@ use Rattle.figures.specs.Directory.{unit, listed}
 use Rattle.figures.specs.Words.{mostFlags, decode, size, nT1, nT2, nB1, nB2, used, unused}
 use Rattle.figures.specs.Policy.{policyOf}
 
--- What c and p are in every sound directory, as facts: "c, 1 to 1,024"; "p ≤ c".
-pub record SizeBounds (c : ℕ) : Type 0 where
-  pub c-least : 1 ≤ c
-  pub c-most : c ≤ mostSize
-
-pub record Bounds (c p : ℕ) : Type 0 where
-  pub of-c : SizeBounds c
-  pub p-fits : p ≤ unit * c
-
 -- The second word of each entry.
 abbrev pub flagWords : List ℕ → List ℕ
 flagWords [] = []
@@ -57,3 +48,12 @@ sound w =
     -- "for CAR also .."; "for CART also .."
     ∷ policyOf (getD w 0 0) .ownSound w
     ∷ [])
+
+-- What that says of c and p, as facts: "c, 1 to 1,024"; "p ≤ c".
+pub record SizeBounds (c : ℕ) : Type 0 where
+  pub c-least : 1 ≤ c
+  pub c-most : c ≤ mostSize
+
+pub record Bounds (c p : ℕ) : Type 0 where
+  pub of-c : SizeBounds c
+  pub p-fits : p ≤ unit * c

@@ -46,7 +46,8 @@ nB1 w = getD w 6 0
 abbrev pub nB2 : List ℕ → ℕ
 nB2 w = getD w 7 0
 
--- "Used entries come first: T1, T2, B1, B2, each from head to tail." How many words they take, and the words after them.
+-- "Used entries come first: T1, T2, B1, B2, each from head to tail." How many words they take, and the words after
+-- them.
 abbrev pub used : List ℕ → ℕ
 used w = 2 * (nT1 w + nT2 w + (nB1 w + nB2 w))
 

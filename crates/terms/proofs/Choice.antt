@@ -4,7 +4,8 @@ use mathlib.Core.Bool.{Bool, true, false, _||_}
 use Rattle.terms.specs.Choice.{if_then_else_}
 
 -- What each outcome of a test gives holds of the choice by it; of a choice by two tests, likewise.
-pub by-test : {A : Type 0} (P : A → Type 0) (b : Bool) {x y : A} → (b ≡ true → P x) → (b ≡ false → P y) → P (if b then x else y)
+pub by-test : {A : Type 0} (P : A → Type 0) (b : Bool) {x y : A}
+    → (b ≡ true → P x) → (b ≡ false → P y) → P (if b then x else y)
 by-test P true p q = p refl
 by-test P false p q = q refl
 
