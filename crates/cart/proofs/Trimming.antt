@@ -1,6 +1,6 @@
 -- CART's trim in words that hold a directory: the history that the code names is the one that trim takes from.
 -- And that a page fits in after it.
-use mathlib.Core.Path.{_≡_, ap}
+use mathlib.Core.Path.{_≡_}
 use mathlib.Core.List.{List}
 use Prim.Native.Nat.{ℕ, _+_, _*_, _≤_, _<_}
 use native.Mathlib.Omega.{arith}
@@ -17,7 +17,7 @@ use Rattle.entries.specs.Holds.{Holds}
 use Rattle.entries.specs.Stretches.{nameOf}
 use Rattle.entries.specs.Leaves.{HistoryHeadDropped}
 use Rattle.entries.proofs.Laid.{header, length-of-list}
-use Rattle.entries.proofs.Rooms.{RoomForOne}
+use Rattle.entries.proofs.Rooms.{RoomForOne, trimmed-fits}
 
 -- By the tests of `oldestOf`.
 module _ (q k1 k2 : ℕ) where
@@ -50,6 +50,4 @@ not-dropped d is fits = rw (trims-not d fits) is
 
 -- After it there is room for one more entry.
 pub trim-fits : (d : Directory) → cached d + 1 ≡ d .c → remembered d ≤ d .c + 1 → RoomForOne d (trim d)
-trim-fits d one-free history =
-    let t = cart-trims d history in
-    omega (arith, t, ap ∣_∣ (t .same-t1), ap ∣_∣ (t .same-t2))
+trim-fits d one-free history = trimmed-fits one-free (cart-trims d history)

@@ -19,17 +19,8 @@ use Rattle.engine.specs.declared.counts.Kept.{Kept}
 use Rattle.engine.specs.Shown.{Makes}
 use Rattle.engine.specs.Heads.{frontOf, headTo}
 use Rattle.engine.specs.Passes.{goesOn, Accounts, KeepsCounts, Passing, ShowsHand, Looked}
+use Rattle.engine.proofs.Heads.{set-front, goes-front}
 use Rattle.engine.proofs.Accounts.{afterMove, t2-to-t1, t1-round, t1-to-t2, raise-keeps, lower-keeps}
-
--- A list whose head has its bit set, or goes on, has one.
-
-pub set-front : (l : List Entry) → frontOf l .bit ≡ true → l ≡ frontOf l ∷ dropHead l
-set-front [] set = absurd (false≢true set)
-set-front (e ∷ es) set = refl
-
-pub goes-front : (l : List Entry) → goesOn (frontOf l) ≡ true → l ≡ frontOf l ∷ dropHead l
-goes-front [] goes = absurd (false≢true goes)
-goes-front (e ∷ es) goes = refl
 
 -- A head that does not go on is S with its bit clear.
 pub stands : (e : Entry) → goesOn e ≡ false → (e .bit ≡ false) × (isLong (e .filter) ≡ false)

@@ -10,7 +10,7 @@ use Rattle.terms.specs.Choice.{∣_∣}
 use Rattle.figures.specs.Directory.{Directory, cached, remembered}
 use Rattle.figures.specs.Words.{encode, decode}
 use Rattle.figures.specs.Policy.{policyOf}
-use Rattle.laws.proofs.Facts.{Shared, Opened, own-by}
+use Rattle.laws.proofs.Facts.{Shared, Opened, Trimmed, trimmed-cached, own-by}
 use Rattle.laws.proofs.Encoding.{encoded, encode-decode, words-fit}
 use Rattle.laws.proofs.Soundness.{facts-of-words}
 use Rattle.entries.specs.Holds.{Holds}
@@ -76,6 +76,10 @@ freed {W = W} f d′ is o =
 pub record RoomForOne (d d′ : Directory) : Type 0 where
   pub one-fits : cached d′ + remembered d′ + 1 ≤ 2 * d .c
   pub same-c : d′ .c ≡ d .c
+
+pub trimmed-fits : {d d′ : Directory} → cached d + 1 ≡ d .c → Trimmed d d′ → RoomForOne d d′
+trimmed-fits one-free t =
+    let size = trimmed-cached t in record { one-fits = omega (arith, t .history-fits); same-c = t .same-c }
 
 pub room-for-new : (d d′ : Directory) {w : List ℕ} → Holds d′ w → RoomForOne d d′ → d .c ≤ 1024
     → Room w × (startOf 4 w + 2 ≤ ∣ w ∣)

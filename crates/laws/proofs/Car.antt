@@ -160,34 +160,34 @@ car-hits x d own =
 
 -- Trim, with one page free.
 
-module _ (d : Directory) (one-free : cached d + 1 ≡ d .c) where
-  trim-leaves : (P : Directory → Type 0) → CarFacts d
+module _ (d : Directory) (one-free : cached d + 1 ≡ d .c) (t1-b1-fit : ∣ d .t1 ∣ + ∣ d .b1 ∣ ≤ d .c) where
+  trim-leaves : (P : Directory → Type 0)
       → (∣ d .t1 ∣ + ∣ d .b1 ∣ < d .c → ¬ (remembered d ≡ d .c + 1) → P d)
       → (1 ≤ ∣ d .b1 ∣ → P (withList B1 (dropHead (d .b1)) d))
       → (∣ d .t1 ∣ + ∣ d .b1 ∣ < d .c → 1 ≤ ∣ d .b2 ∣ → P (withList B2 (dropHead (d .b2)) d))
       → P (trim d)
   unfolding trim
-  trim-leaves P own all less-b1 less-b2 =
+  trim-leaves P all less-b1 less-b2 =
       by-test P (eqb (∣ d .t1 ∣ + ∣ d .b1 ∣) (d .c)) (λ at-c. less-b1 (omega (arith, eqb-true)))
       (λ below. by-test P (eqb (cached d + remembered d) (2 * d .c))
       (λ at-2c. less-b2 (omega (arith, eqb-false)) (omega (arith, eqb-true, eqb-false)))
       (λ below-2c. all (omega (arith, eqb-false)) (omega (arith, eqb-false))))
 
-  pub car-trim-has-head : CarFacts d → CarTrimHasHead d
+  pub car-trim-has-head : CarTrimHasHead d
   unfolding trim
-  car-trim-has-head own = record {
+  car-trim-has-head = record {
     drops-B1 = λ at-c. rw (eq-eqb _ _ at-c) (dropped-b1 d (omega arith));
     drops-B2 = λ below at-2c. rw (ne-eqb _ _ below, eq-eqb _ _ at-2c) (dropped-b2 d (omega arith));
   }
 
-  pub car-trims : remembered d ≤ d .c + 1 → CarFacts d → Trimmed d (trim d)
-  car-trims history own =
-      trim-leaves (Trimmed d) own (λ room fits. trimmed-not d (omega arith)) (trimmed-b1 d history)
+  pub car-trims : remembered d ≤ d .c + 1 → Trimmed d (trim d)
+  car-trims history =
+      trim-leaves (Trimmed d) (λ room fits. trimmed-not d (omega arith)) (trimmed-b1 d history)
       (λ room. trimmed-b2 d history)
 
   pub car-places-new : CarFacts d → (x : ℕ) → CarFacts (placeNew x (trim d))
   car-places-new own x =
-      let roomy = trim-leaves (λ d′. CarFacts d′ × (∣ d′ .t1 ∣ + ∣ d′ .b1 ∣ < d′ .c)) own (λ room fits. omega arith)
+      let roomy = trim-leaves (λ d′. CarFacts d′ × (∣ d′ .t1 ∣ + ∣ d′ .b1 ∣ < d′ .c)) (λ room fits. omega arith)
       (λ some. omega (arith, total-head-dropped long (d .b1), length-head-dropped (d .b1)))
       (λ room some. omega (arith, total-head-dropped long (d .b2))) in
       with-new x (trim d) (roomy .0) (roomy .1)

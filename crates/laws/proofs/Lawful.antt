@@ -33,8 +33,8 @@ car-keeps : Keeps carPolicy CarFacts
 car-keeps = record {
   opens = car-opens;
   opened = car-opened;
-  trims = car-trims;
-  places-new = λ x d free own. car-places-new d free own x;
+  trims = λ d free history own. car-trims d free (own .t1-b1-fit) history;
+  places-new = λ x d free own. car-places-new d free (own .t1-b1-fit) own x;
   has-room = car-has-room;
   hits = λ x d shared own found. hit-leaves x d shared found (car-hits x d own);
   back-B1 = car-places-B1;

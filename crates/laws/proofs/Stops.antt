@@ -45,7 +45,7 @@ trim-has-head = record {
   of-car = λ d s full named.
       let own = car-facts d s named in
       let opens = car-opens d (shared d s) own full in
-      car-trim-has-head (Car.evict d .dir) (omega arith) (car-opened d (shared d s) own full);
+      car-trim-has-head (Car.evict d .dir) (omega arith) (car-opened d (shared d s) own full .t1-b1-fit);
   of-cart = λ d s full named. cart-trim-has-head (Cart.evict d .dir);
 }
 

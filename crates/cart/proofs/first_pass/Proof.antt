@@ -11,7 +11,8 @@ use Rattle.figures.specs.Cart as Cart
 use Rattle.engine.specs.Heads.{frontOf}
 use Rattle.engine.specs.Passes.{Passing, Looked}
 use Rattle.engine.proofs.Accounts.{afterMove, counts-cached}
-use Rattle.engine.proofs.Looks.{Moved, set-front, first-looks, first-stops}
+use Rattle.engine.proofs.Heads.{set-front}
+use Rattle.engine.proofs.Looks.{Moved, first-looks, first-stops}
 use Rattle.engine.proofs.Passes.{Underway, begins, goes-on, ends-here}
 use Rattle.entries.specs.Holds.{Holds}
 use Rattle.cart.specs.Passing.{HeadFlags}

@@ -14,7 +14,8 @@ use Rattle.figures.specs.Cart as Cart
 use Rattle.engine.specs.Shown.{Makes}
 use Rattle.engine.specs.Heads.{frontOf, headTo}
 use Rattle.engine.proofs.Accounts.{afterMove, counts-cached, short-counted}
-use Rattle.engine.proofs.Looks.{Moved, goes-front, look-settles, look-goes-round, look-makes-long}
+use Rattle.engine.proofs.Heads.{goes-front}
+use Rattle.engine.proofs.Looks.{Moved, look-settles, look-goes-round, look-makes-long}
 use Rattle.entries.specs.Holds.{Holds}
 use Rattle.entries.specs.Flags.{Becomes}
 use Rattle.entries.specs.Stretches.{nameOf}
