@@ -1,4 +1,4 @@
--- The answer is the check's number: each return is the refusal whose turn it is, since the tests before it passed.
+-- Each return is the refusal whose turn it is, since the tests before it passed.
 use mathlib.Core.Path.{_≡_, sym, _∙_}
 use mathlib.Core.Bool.{true}
 use mathlib.Core.List.{List}
@@ -11,7 +11,8 @@ use Rattle.terms.specs.Limits.{knownSize}
 use Rattle.terms.specs.Policies.{knownPolicy}
 use Rattle.terms.proofs.Tests.{reads}
 use Rattle.figures.specs.Words.{size}
-use Rattle.directory.proofs.Refused.{check-short, check-policy, check-size, check-length, check-unsound, check-sound}
+use Rattle.directory.proofs.Refused.{check-short, check-policy, check-size, check-length}
+use Rattle.directory.proofs.Refused.{check-unsound, check-sound}
 use borrow.Author.Needs.{needs}
 use Rattle.directory.proofs.check.Statement.{statement}
 use Rattle.directory.proofs.check.Tie as tie
@@ -37,7 +38,8 @@ returns c = check-short _ (c .if1 .taken)
 
 returns-2 : tie.Need-returns-2
 returns-2 c =
-    check-policy _ (in-else1 (c .before) .if1 .left) (sym (c .before .known-policy .ensures) ∙ not-true _ (c .if2 .taken))
+    let tested = c .before in
+    check-policy _ (in-else1 tested .if1 .left) (sym (tested .known-policy .ensures) ∙ not-true _ (c .if2 .taken))
 
 abbrev w : tie.Else2 → List ℕ
 w c = c .before .before .before .before .before .args .dir .now

@@ -1,4 +1,4 @@
--- The answer is the number of a fresh directory, whose words are zeros with the policy and c put in; a refusal leaves the words.
+-- A fresh directory's words are zeros, with the policy and c put in; a refusal leaves the words.
 use mathlib.Core.Path.{_≡_, sym, _∙_}
 use mathlib.Core.Bool.{true}
 use Prim.Native.Nat.{_+_, _*_}
@@ -30,7 +30,9 @@ policy : (c : tie.Else1) → knownPolicy (c .before .before .before .args .polic
 policy c = sym (c .before .known-policy .ensures) ∙ not-false _ (c .if1 .left)
 
 returns-2 : tie.Need-returns-2
-returns-2 c = fresh-size _ _ _ (policy (c .before .before)) (sym (c .before .known-size .ensures) ∙ not-true _ (c .if2 .taken))
+returns-2 c =
+    let tested = c .before in
+    fresh-size _ _ _ (policy (tested .before)) (sym (tested .known-size .ensures) ∙ not-true _ (c .if2 .taken))
 
 sized : (c : tie.Else2) → knownSize (at-start c .args .c) ≡ true
 sized c = sym (c .before .known-size .ensures) ∙ not-false _ (c .if2 .left)
@@ -47,7 +49,8 @@ returns-4 c =
     let e = in-else2 c in
     let a = at-start e .args in
     let exact : ∣ a .dir .now ∣ ≡ 8 + 4 * a .c = omega arith in
-    let cleared : c .before .before .clear .last .0 ≡ replicate (8 + 4 * a .c) 0 = rw exact at (c .before .before .clear .ensures) in
+    let zeros = c .before .before .clear in
+    let cleared : zeros .last .0 ≡ replicate (8 + 4 * a .c) 0 = rw exact at (zeros .ensures) in
     fresh-accepted _ _ _ (policy (e .before .before)) (sized e) exact _ (rw cleared (fresh-words (a .policy) (a .c)))
 
 pub fresh-spec : {M : Type 1} → statement M

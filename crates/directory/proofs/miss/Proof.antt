@@ -18,7 +18,8 @@ after-miss-arg2 c = c .before .before .before
 miss-requires-2 : tie.Need-miss-requires-2
 miss-requires-2 c κs =
     let s = at-start c in
-    record { is-sound = s .pre .0 .is-sound; is-named = other-is-cart (s .pre .0) (c .before .if1 .left); is-full = s .pre .1 }
+    let named = other-is-cart (s .pre .0) (c .before .if1 .left) in
+    record { is-sound = s .pre .0 .is-sound; is-named = named; is-full = s .pre .1 }
 
 returns : tie.Need-returns
 returns c =

@@ -19,7 +19,10 @@ same-length : tie.Need-same-length
 same-length c = simp length-set
 
 returns : tie.Need-returns
-returns c = let s = c .args .served in four-stores (c .args .answers .now) (c .args .at) (s .kind) (s .page) (s .list) (s .moves) (c .pre)
+returns c =
+    let a = c .args in
+    let s = a .served in
+    four-stores (a .answers .now) (a .at) (s .kind) (s .page) (s .list) (s .moves) (c .pre)
 
 pub put-answer-spec : {M : Type 1} → statement M
 put-answer-spec =

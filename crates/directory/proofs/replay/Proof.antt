@@ -1,5 +1,5 @@
--- The run is that of the definition: after i turns its first i answers are written, and what is left of the trace, from the
--- words and the tally then, comes to what the whole comes to.
+-- After i turns the run's first i answers are written, and what is left of the trace, from the words and the tally
+-- then, comes to what the whole comes to.
 use mathlib.Core.Path.{_≡_, refl}
 use Prim.Native.Nat.{_-_}
 use native.Mathlib.Omega.{arith}
@@ -30,7 +30,8 @@ after-step c = c .before .before .before .before
 loop-holds : tie.Need-loop-holds Inv-loop μ-loop
 loop-holds c =
     let s = at-start c in
-    (begins (s .args .dir .now) (s .args .trace .now) (s .args .answers .now) (s .pre .0) _ (c .no-tally .ensures), refl, refl)
+    let a = s .args in
+    (begins (a .dir .now) (a .trace .now) (a .answers .now) (s .pre .0) _ (c .no-tally .ensures), refl, refl)
 
 step-requires : tie.Need-step-requires Inv-loop μ-loop
 step-requires c κs =

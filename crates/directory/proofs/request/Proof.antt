@@ -1,4 +1,4 @@
--- The check's number decides: a refusal leaves the words, and words that it accepts are sound, which is what `serve` asks for.
+-- The check's number decides: a refusal leaves the words, and words that it accepts are sound, as `serve` asks.
 use mathlib.Core.Path.{sym, _∙_}
 use native.Mathlib.Omega.{arith}
 use borrow.Author.Needs.{needs}
@@ -25,13 +25,14 @@ returns c =
 
 serve-requires : tie.Need-serve-requires
 serve-requires c κs =
-    ready _ (accepted-sound (at-start c .args .dir .now) (sym (c .before .before .check .ensures .number-is) ∙ omega arith))
+    let number-is = c .before .before .check .ensures .number-is in
+    ready _ (accepted-sound (at-start c .args .dir .now) (sym number-is ∙ omega arith))
 
 returns-2 : tie.Need-returns-2
 returns-2 c =
-    let s = at-start (after-serve-arg c) in
-    let accepted = after-serve-arg c .before .before .check .ensures .number-is in
-    requested-served (s .args .dir .now) (s .args .page) _ accepted (omega arith) _ _ (c .before .before .serve .ensures .0)
+    let a = at-start (after-serve-arg c) .args in
+    let number-is = after-serve-arg c .before .before .check .ensures .number-is in
+    requested-served (a .dir .now) (a .page) _ number-is (omega arith) _ _ (c .before .before .serve .ensures .0)
 
 pub request-spec : {M : Type 1} → statement M
 request-spec =

@@ -1,4 +1,4 @@
--- The answer is that of the definition: each return is the refusal whose turn it is, since the tests before it passed, or the replayed run.
+-- Each return is the refusal whose turn it is, since the tests before it passed, or the replayed run.
 use mathlib.Core.Path.{sym, _∙_}
 use native.Mathlib.Omega.{arith}
 use borrow.Author.Needs.{needs}
@@ -19,7 +19,9 @@ abbrev after-replay : tie.After-slice-known4 → tie.After-replay
 after-replay c = c .before .before .before .before
 
 returns : tie.Need-returns
-returns c = run-refused _ _ _ _ (c .before .before .check .ensures .number-is) (c .before .if1 .taken) _ (c .no-tally .ensures)
+returns c =
+    let k = c .before .before in
+    run-refused _ _ _ _ (k .check .ensures .number-is) (c .before .if1 .taken) _ (c .no-tally .ensures)
 
 returns-2 : tie.Need-returns-2
 returns-2 c =

@@ -27,7 +27,8 @@ returns c =
     let x = s .args .page in
     let at = place (s .pre) x w _ (f .find .result) (f .find .ensures .1) (omega arith) in
     let marked = after-mark c .mark .ensures (decode w) x (words-held (s .pre)) at in
-    rw (c .still .ensures) (tells-hit (s .pre) x _ _ (f .find .result) (f .find .ensures .1) (omega arith) (omega arith) marked)
+    rw (c .still .ensures)
+    (tells-hit (s .pre) x _ _ (f .find .result) (f .find .ensures .1) (omega arith) (omega arith) marked)
 
 returns-2 : tie.Need-returns-2
 returns-2 c =
@@ -35,14 +36,15 @@ returns-2 c =
     let s = at-start f in
     let placed = c .before .before .before .place-new .ensures (decode (s .args .dir .now)) (words-held (s .pre)) in
     rw (c .still2 .ensures)
-    (tells-room (s .pre) (s .args .page) _ _ (f .find .result) (f .find .ensures .1) (omega arith) (omega arith) (omega arith) placed)
+    (tells-room (s .pre) (s .args .page) _ _ (f .find .result) (f .find .ensures .1)
+    (omega arith) (omega arith) (omega arith) placed)
 
 returns-3 : tie.Need-returns-3
 returns-3 c =
     let f = in-else1 c .before in
     let s = at-start f in
-    tells-full (s .pre) (s .args .page) _ _ (f .find .result) (f .find .ensures .1) (omega arith) (omega arith) (omega arith)
-    (c .before .before .miss .ensures)
+    tells-full (s .pre) (s .args .page) _ _ (f .find .result) (f .find .ensures .1)
+    (omega arith) (omega arith) (omega arith) (c .before .before .miss .ensures)
 
 pub serve-spec : {M : Type 1} → statement M
 serve-spec =

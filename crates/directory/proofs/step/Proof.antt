@@ -1,4 +1,4 @@
--- One request of a run: `serve` tells the request's answer, which is written and counted, with no more moves than a tally has room for.
+-- `serve` tells the request's answer, which is written and counted, with no more moves than a tally has room for.
 use mathlib.Core.Path.{ap, _∙_}
 use native.Mathlib.Omega.{arith}
 use borrow.Author.Needs.{needs}
@@ -30,8 +30,10 @@ returns c =
     let v = after-serve p in
     let s = at-start v in
     let told = v .serve .ensures .0 in
+    let served = request (s .args .page) (decode (s .args .dir .now)) in
     record {
-      tally-is = ap defined (c .counted .ensures) ∙ noted-defined (s .args .t) (v .serve .result) (request (s .args .page) (decode (s .args .dir .now))) (told .kind-is) (told .moves-is);
+      tally-is = ap defined (c .counted .ensures)
+          ∙ noted-defined (s .args .t) (v .serve .result) served (told .kind-is) (told .moves-is);
       shown = told .shown;
       answers-are = cc (p .put-answer .ensures, told .kind-is, told .page-is, told .list-is, told .moves-is);
       ready-again = v .serve .ensures .1;
