@@ -34,7 +34,8 @@ put-in-requires : tie.Need-put-in-requires
 put-in-requires c κs =
     let a = at-start (c .before .before .before) .args in
     let w = a .dir .now in
-    omega (arith, starts-in-order w (a .t + 1) (a .b) (omega arith), start-of-next w (a .b) (omega arith), starts-within w (a .b + 1))
+    let order = starts-in-order w (a .t + 1) (a .b) (omega arith) in
+    omega (arith, start-of-next w (a .b) (omega arith), starts-within w (a .b + 1))
 
 add-dir : tie.Need-add-dir
 add-dir c =
@@ -46,7 +47,8 @@ returns c d e′ is here page new =
     let s = at-start (after-start-of2 c) in
     let h = s .pre .1 in
     let x = s .args in
-    page-to-tail (x .t) (x .b) (x .k) d e′ (x .dir .now) _ (x .page) (x .flags) (h .0) (h .1) (h .2) is (h .3) here page new _ _
+    page-to-tail (x .t) (x .b) (x .k) d e′ (x .dir .now) _ (x .page) (x .flags) (h .0) (h .1) (h .2) is (h .3)
+    here page new _ _
     (after-start-of2 c .before .before .start-of .ensures) (omega arith) (c .before .before .put-in .ensures)
 
 pub come-back-spec : {M : Type 1} → statement M

@@ -17,8 +17,8 @@ returns c d is fits =
     let e = c .before .before .before .before .before in
     let a = e .before .before in
     let s = a .before .before .before in
-    head-dropped (s .args .b) d (s .args .dir .now) _ (s .pre .1 .1) is (s .pre .1 .2) fits _ _ (a .start-of .ensures) (e .start-of2 .ensures)
-    (c .before .before .take-out .ensures)
+    head-dropped (s .args .b) d (s .args .dir .now) _ (s .pre .1 .1) is (s .pre .1 .2) fits _ _
+    (a .start-of .ensures) (e .start-of2 .ensures) (c .before .before .take-out .ensures)
 
 pub drop-head-spec : {M : Type 1} → statement M
 drop-head-spec =

@@ -18,7 +18,9 @@ returns c =
     let a = n .before .before in
     let x = a .before .before .args in (
       omega arith,
-      λ d is. found-index d (x .dir .now) is (x .i) (omega arith) _ _ (x .page) _ (c .find .ensures .1) (a .start-of .ensures) (n .wide .ensures),
+      λ d is.
+          found-index d (x .dir .now) is (x .i) (omega arith) _ _ (x .page) _
+          (c .find .ensures .1) (a .start-of .ensures) (n .wide .ensures),
     )
 
 pub find-spec : {M : Type 1} → statement M

@@ -1,4 +1,5 @@
--- What `to_end` makes the last before the end of list j is the head of list i; the lengths change only where the lists are two.
+-- What `to_end` makes the last before the end of list j is the head of list i.
+-- The lengths change only where the lists are two.
 use borrow.Author.Needs.{needs}
 use Prim.Native.Nat.{_+_}
 use native.Mathlib.Omega.{arith}
@@ -25,7 +26,8 @@ to-end-requires : tie.Need-to-end-requires
 to-end-requires c κs =
     let a = at-start (after-start-of c) .args in
     let w = a .dir .now in
-    omega (arith, start-of-next w (a .i) (omega arith), starts-in-order w (a .i + 1) (a .j + 1) (omega arith), starts-within w (a .j + 1))
+    let order = starts-in-order w (a .i + 1) (a .j + 1) (omega arith) in
+    omega (arith, start-of-next w (a .i) (omega arith), starts-within w (a .j + 1))
 
 add-dir-2 : tie.Need-add-dir-2
 add-dir-2 c =

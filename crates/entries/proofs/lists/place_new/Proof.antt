@@ -9,7 +9,8 @@ returns : tie.Need-returns
 returns c d is =
     let a = c .before .before .before .before .before .before .before in
     let s = a .before .before .before in
-    new-at-tail d (s .args .page) (s .args .dir .now) _ is (s .pre .1) _ _ (a .start-of .ensures) (omega arith) (c .before .before .put-in .ensures)
+    new-at-tail d (s .args .page) (s .args .dir .now) _ is (s .pre .1) _ _
+    (a .start-of .ensures) (omega arith) (c .before .before .put-in .ensures)
 
 pub place-new-spec : {M : Type 1} → statement M
 place-new-spec =

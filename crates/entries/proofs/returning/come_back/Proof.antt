@@ -1,9 +1,13 @@
--- What `find` says of B1 and B2 decides where the page was. The new target stands before the page moves, as in the figures.
-use mathlib.Core.Path.{refl, ap, _∙_}
+-- What `find` says of B1 and B2 decides where the page was.
+-- The new target stands before the page moves, as in the figures.
+use mathlib.Core.Path.{_≡_, refl, ap, _∙_}
+use mathlib.Core.Bool.{false}
 use native.Mathlib.Omega.{arith}
 use Prim.Native.Nat.{ℕ}
 use lib.ListN.{length-set}
-use Rattle.figures.specs.Directory.{withP}
+use Rattle.figures.specs.Entry.{has}
+use Rattle.figures.specs.Directory.{Directory, withP}
+use Rattle.entries.specs.Holds.{Holds}
 use Rattle.entries.specs.Targets.{raisedTarget, loweredTarget}
 use Rattle.entries.specs.Returning.{from-b1, from-b2, is-new}
 use Rattle.entries.proofs.Laid.{with-p, length-with-p}
@@ -31,6 +35,15 @@ second c = c .before .before
 
 abbrev before-second : tie.After-find2 → tie.After-wide
 before-second f = f .before .before .before
+
+-- Where the first search has found nothing, B1 lacks the page.
+lacks-b1 : (g : tie.After-find2) (d : Directory) → let a = at-start (first (before-second g)) .args in
+    Holds d (a .dir .now) → has (a .page) (d .b1) ≡ false
+lacks-b1 g d is =
+    let f = first (before-second g) in
+    let a = at-start f .args in
+    let nowhere = g .before .before .if1 .left in
+    found-lacks d (a .dir .now) is 2 (omega arith) (a .page) _ (f .find .ensures) (omega (arith, nowhere))
 
 come-back-requires : tie.Need-come-back-requires
 come-back-requires c κs =
@@ -86,7 +99,7 @@ returns-2 c d e m n is page new b1 b2 =
     let found = g .find2 .ensures in
     let target = with-p d is (r .lowered .ensures d is ∙ ap (λ (k : ℕ). loweredTarget k d) b2) in
     from-b2
-    (found-lacks d (a .dir .now) is 2 (omega arith) (a .page) _ (f .find .ensures) (omega (arith, g .before .before .if1 .left)))
+    (lacks-b1 g d is)
     (found-has d (a .dir .now) is 3 (omega arith) (a .page) _ found (omega arith))
     (b .come-back2 .ensures (withP (loweredTarget n d) d) e target (found .1 d is) page new)
 
@@ -96,7 +109,7 @@ returns-3 c d e m n is page new b1 b2 =
     let f = first (before-second g) in
     let a = at-start f .args in
     is-new
-    (found-lacks d (a .dir .now) is 2 (omega arith) (a .page) _ (f .find .ensures) (omega (arith, g .before .before .if1 .left)))
+    (lacks-b1 g d is)
     (found-lacks d (a .dir .now) is 3 (omega arith) (a .page) _ (g .find2 .ensures) (omega arith))
     refl
 

@@ -29,7 +29,9 @@ loop-again c =
     let flag = c .before .before .before .before .before .args .flag in (
       omega arith,
       omega arith,
-      λ l h q. omega (arith, v .inv .2 l h q, count-more (entry-at h (v .i) (omega arith)) flag (c .counts .ensures .1)),
+      λ l h q.
+          let e = entry-at h (v .i) (omega arith) in
+          omega (arith, v .inv .2 l h q, count-more e flag (c .counts .ensures .1)),
     )
 
 returns : tie.Need-returns Inv-loop μ-loop
@@ -38,7 +40,8 @@ returns c =
     let flag = c .before .before .before .args .flag in (
       omega arith,
       λ P R l is p q.
-          omega (arith, v .inv .2 l (held P R is p) q, ap (total (ofFlag flag)) (drop-of-length-le l {i = v .i} (omega arith))),
+          let none-left = drop-of-length-le l {i = v .i} (omega arith) in
+          omega (arith, v .inv .2 l (held P R is p) q, ap (total (ofFlag flag)) none-left),
     )
 
 pub count-spec : {M : Type 1} → statement M

@@ -1,4 +1,4 @@
--- The place returned is the page's index: no entry before i is for the page, so its index is i more than among the entries from i on.
+-- No entry before i is for the page, so its index is i more than among the entries from i on.
 use mathlib.Core.Path.{_≡_, ap}
 use mathlib.Core.List.{List}
 use Prim.Native.Nat.{_≤_, _+_, _-_}
@@ -49,7 +49,9 @@ returns-2 c =
     let v = c .before .loop in
     let x = c .before .before .args .page in (
       omega arith,
-      λ P R l is p q. omega (arith, v .inv .1 l (held P R is p) q, ap (index x) (drop-of-length-le l {i = v .i} (omega arith))),
+      λ P R l is p q.
+          let none-left = drop-of-length-le l {i = v .i} (omega arith) in
+          omega (arith, v .inv .1 l (held P R is p) q, ap (index x) none-left),
     )
 
 pub find-spec : {M : Type 1} → statement M

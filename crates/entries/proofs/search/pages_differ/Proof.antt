@@ -1,4 +1,4 @@
--- The answer is whether all pages differ: no page before entry i stands again later, so all differ if those from i on do.
+-- No page before entry i stands again later, so all differ if those from i on do.
 use mathlib.Core.Path.{_≡_, refl, sym, ap, _∙_}
 use mathlib.Core.List.{List}
 use Prim.Native.Nat.{_≤_, _-_}
@@ -29,7 +29,8 @@ returns c P R l is p q =
 loop-again : tie.Need-loop-again Inv-loop μ-loop
 loop-again c =
     let v = c .before .before .before .before .loop in
-    (omega arith, λ l h q. v .inv .1 l h q ∙ differ-later h q (omega arith) (c .before .find .ensures .1) (c .if1 .left))
+    let found = c .before .find .ensures .1 in
+    (omega arith, λ l h q. v .inv .1 l h q ∙ differ-later h q (omega arith) found (c .if1 .left))
 
 returns-2 : tie.Need-returns-2 Inv-loop μ-loop
 returns-2 c P R l is p q =

@@ -15,7 +15,8 @@ returns c P M R h f is p q =
     let t = c .before .before .before .before .before .before in
     let s = t .before .before .before .args in
     let one =
-    pushed P (M ++ (h ∷ [])) R f (s .flags) (s .a) (s .e) p (omega (arith, length-append M (h ∷ []))) (s .dir .now) (t .shift-in .last .0)
+    pushed P (M ++ (h ∷ [])) R f (s .flags) (s .a) (s .e) p
+    (omega (arith, length-append M (h ∷ []))) (s .dir .now) (t .shift-in .last .0)
     (is ∙ ap (λ (l : List ℕ). P ++ l) (sym (append-snoc M h (f ∷ R)))) (t .shift-in .ensures) in
     pushed P (s .flags ∷ M) R h (s .page) (s .a) (s .e) p (omega arith) _ (c .before .before .shift-in2 .last .0)
     (one ∙ ap (λ (l : List ℕ). P ++ (s .flags ∷ l)) (append-snoc M h R)) (c .before .before .shift-in2 .ensures)

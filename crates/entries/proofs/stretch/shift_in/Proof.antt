@@ -1,4 +1,4 @@
--- After i turns of the loop the first i words are x and the words before, and the word held is the one that follows them.
+-- After i turns the first i words are x and the words before, and the word held is the one that follows them.
 use mathlib.Core.Path.{_≡_, refl, sym, ap, _∙_}
 use mathlib.Core.List.{List, _∷_}
 use Prim.Native.Nat.{ℕ, suc, _≤_, _-_}
@@ -10,7 +10,9 @@ use Rattle.entries.proofs.stretch.shift_in.Statement.{statement}
 use Rattle.entries.proofs.stretch.shift_in.Tie as tie
 
 abbrev Inv-loop : tie.InvT-loop
-Inv-loop s₀ x n held₀ i₀ s held i = (i ≤ n) × (n ≡ length s₀) × (held ≡ getD (x ∷ s₀) i 0) × (s ≡ over (x ∷ s₀) s₀ i) × (length s ≡ length s₀)
+Inv-loop s₀ x n held₀ i₀ s held i =
+    (i ≤ n) × (n ≡ length s₀)
+    × (held ≡ getD (x ∷ s₀) i 0) × (s ≡ over (x ∷ s₀) s₀ i) × (length s ≡ length s₀)
 
 abbrev μ-loop : tie.MeasureT-loop
 μ-loop s₀ x n held₀ i₀ s held i = n - i
@@ -32,8 +34,10 @@ loop-again c =
     let y : suc i ≤ length (x ∷ l) = omega arith in (
       omega arith,
       refl,
-      ap (λ (r : List ℕ). getD r i 0) (v .3) ∙ over-read (x ∷ l) l i y h ∙ sym (ap (λ (k : ℕ). getD (x ∷ l) k 0) (add-one i)),
-      ap (λ (r : List ℕ). set r i (at-loop c .loop .held)) (v .3) ∙ ap (λ (k : ℕ). set (over (x ∷ l) l i) i k) (v .2) ∙ over-more (x ∷ l) l i y h,
+      ap (λ (r : List ℕ). getD r i 0) (v .3) ∙ over-read (x ∷ l) l i y h
+          ∙ sym (ap (λ (k : ℕ). getD (x ∷ l) k 0) (add-one i)),
+      ap (λ (r : List ℕ). set r i (at-loop c .loop .held)) (v .3)
+          ∙ ap (λ (k : ℕ). set (over (x ∷ l) l i) i k) (v .2) ∙ over-more (x ∷ l) l i y h,
       simp length-set (v .4),
     )
 

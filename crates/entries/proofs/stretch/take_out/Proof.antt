@@ -20,7 +20,8 @@ same-length c =
 returns : tie.Need-returns
 returns c P M R h f is p q =
     let a = at-start c .args .a in
-    c .before .before .to-end .ensures P M R 0 f (ap (λ (l : List ℕ). set l a 0) is ∙ set-at P h (f ∷ (M ++ R)) 0 a p) p q
+    let zero-page = ap (λ (l : List ℕ). set l a 0) is ∙ set-at P h (f ∷ (M ++ R)) 0 a p in
+    c .before .before .to-end .ensures P M R 0 f zero-page p q
 
 pub take-out-spec : {M : Type 1} → statement M
 take-out-spec = tie.close (tie.spec (λ c. search needs) (λ c. search needs) (λ c κs. search needs) same-length returns)

@@ -11,7 +11,8 @@ use Rattle.entries.proofs.stretch.to_end.Tie as tie
 same-length : tie.Need-same-length
 same-length c =
     let x = c .before .before .before .before .before .args in
-    same-len-mid (x .a) (x .e - x .a) (set (x .dir .now) (x .a + 1) (x .flags)) (c .before .before .turn .last .0) (c .before .before .turn .kept .0)
+    let turned = c .before .before .turn in
+    same-len-mid (x .a) (x .e - x .a) (set (x .dir .now) (x .a + 1) (x .flags)) (turned .last .0) (turned .kept .0)
     ∙ length-set (x .dir .now) (x .a + 1) (x .flags)
 
 returns : tie.Need-returns

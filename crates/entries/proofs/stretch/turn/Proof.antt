@@ -35,8 +35,9 @@ returns-2 c =
     let l = c .before .before .before .before .before .args .s .now in
     let v = c .before .loop .inv in
     let e : c .before .loop .i ≡ length l - 2 = omega arith in
-    ap (λ (r : List ℕ). set (set r (length l - 2) (getD l 0 0)) (length l - 2 + 1) (getD l 1 0)) (v .2 ∙ ap (λ (k : ℕ). moved l k) e)
-    ∙ moved-last l (length l - 2) (v .1)
+    let m = length l - 2 in
+    ap (λ (r : List ℕ). set (set r m (getD l 0 0)) (m + 1) (getD l 1 0)) (v .2 ∙ ap (λ (k : ℕ). moved l k) e)
+    ∙ moved-last l m (v .1)
 
 pub turn-spec : {M : Type 1} → statement M
 turn-spec =

@@ -6,7 +6,9 @@ use Rattle.entries.proofs.targets.raised.Statement.{statement}
 use Rattle.entries.proofs.targets.raised.Tie as tie
 
 returns : tie.Need-returns
-returns c d is = omega (arith, raised-read d is (c .before .before .before .before .before .before .before .args .dividend))
+returns c d is =
+    let s = c .before .before .before .before .before .before .before in
+    omega (arith, raised-read d is (s .args .dividend))
 
 pub raised-spec : {M : Type 1} → statement M
 raised-spec =
