@@ -8,6 +8,8 @@ use native.Mathlib.Nat.{zero-add}
 use lib.ListN.{set, take, drop, length-append, length-set, take-append-drop}
 use lib.Seq.{paste, take-length, take-paste, drop-paste, length-paste, take-suc-set, drop-set-lt, drop-drop}
 use Rattle.terms.specs.Choice.{∣_∣}
+use Rattle.sheets.specs.Lines.{lineFeed}
+use Rattle.sheets.specs.Result.{lineOf}
 use Rattle.sheets.specs.Refusals.{over}
 use Rattle.result.specs.Put.{PutFits, Put}
 
@@ -60,6 +62,14 @@ room-first x y room = omega (arith, length-append x y)
 
 pub room-then : {w w′ x y : List ℕ} {a b : ℕ} → Put w a x w′ b → PutFits w a (x ++ y) → PutFits w′ b y
 room-then {x = x} {y} p room = omega (arith, length-append x y)
+
+-- A line: its key, its value, a line feed.
+module _ {w w₁ key value : List ℕ} {a b : ℕ} (room : PutFits w a (lineOf key value)) (first : Put w a key w₁ b) where
+  pub value-room : PutFits w₁ b value
+  value-room = room-first value (lineFeed ∷ []) (room-then first room)
+
+  pub feed-room : {w₂ : List ℕ} {c : ℕ} → Put w₁ b value w₂ c → PutFits w₂ c (lineFeed ∷ [])
+  feed-room second = room-then second (room-then first room)
 
 -- What is put from the front on stands over the buffer.
 pub put-over : {w x w′ : List ℕ} {n : ℕ} → Put w 0 x w′ n → w′ ≡ over x w

@@ -42,7 +42,8 @@ put-requires-2 c κs =
 
 returns : tie.Need-returns
 returns c =
-    let t = in-then1 (c .before .before .before) in put-as (is-car (t .before .before .args .policy) (t .if1 .taken)) (c .before .before .put .ensures)
+    let t = in-then1 (c .before .before .before) in
+    put-as (is-car (t .before .before .args .policy) (t .if1 .taken)) (c .before .before .put .ensures)
 
 returns-2 : tie.Need-returns-2
 returns-2 c =

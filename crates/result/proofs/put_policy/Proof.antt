@@ -1,10 +1,6 @@
 -- The key, the name and a line feed are put, one after another.
 use borrow.Author.Needs.{needs}
-use mathlib.Core.List.{[], _∷_}
-use Rattle.terms.specs.Policies.{policyName}
-use Rattle.text.specs.Text.{bytes}
-use Rattle.sheets.specs.Lines.{lineFeed}
-use Rattle.result.proofs.Putting.{both, room-first, room-then}
+use Rattle.result.proofs.Putting.{both, value-room, feed-room}
 use Rattle.result.proofs.put_policy.Statement.{statement}
 use Rattle.result.proofs.put_policy.Tie as tie
 
@@ -19,16 +15,13 @@ abbrev after-put-name : tie.After-put-byte-arg → tie.After-put-name
 after-put-name c = c .before .before .before
 
 put-name-requires : tie.Need-put-name-requires
-put-name-requires c κs =
-    let p = after-put c in
-    let s = at-start p in
-    room-first (bytes (policyName (s .args .policy))) (lineFeed ∷ []) (room-then (p .put .ensures) (s .pre))
+put-name-requires c κs = let p = after-put c in value-room (at-start p .pre) (p .put .ensures)
 
 put-byte-requires : tie.Need-put-byte-requires
 put-byte-requires c κs =
     let m = after-put-name c in
     let p = after-put (m .before) in
-    room-then (m .put-name .ensures) (room-then (p .put .ensures) (at-start p .pre))
+    feed-room (at-start p .pre) (p .put .ensures) (m .put-name .ensures)
 
 returns : tie.Need-returns
 returns c =

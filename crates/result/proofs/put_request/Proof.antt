@@ -11,20 +11,20 @@ use Rattle.result.proofs.put_request.Tie as tie
 abbrev at-start : tie.After-put-named → tie.Start
 at-start c = c .before .before .before .before
 
-abbrev after-put-named : tie.After-put-named-arg4 → tie.After-put-named
-after-put-named c = c .before .before .before .before
+abbrev after-request : tie.After-put-named-arg4 → tie.After-put-named
+after-request c = c .before .before .before .before
 
-abbrev after-put-named2 : tie.After-put-named-arg6 → tie.After-put-named2
-after-put-named2 c = c .before .before .before .before
+abbrev after-page : tie.After-put-named-arg6 → tie.After-put-named2
+after-page c = c .before .before .before .before
 
-abbrev after-put-named3 : tie.After-put-named-arg8 → tie.After-put-named3
-after-put-named3 c = c .before .before .before .before
+abbrev after-kind : tie.After-put-named-arg8 → tie.After-put-named3
+after-kind c = c .before .before .before .before
 
-abbrev after-put-named4 : tie.After-put-named-arg10 → tie.After-put-named4
-after-put-named4 c = c .before .before .before .before
+abbrev after-evicted : tie.After-put-named-arg10 → tie.After-put-named4
+after-evicted c = c .before .before .before .before
 
-abbrev after-put-named5 : tie.After-put-line-arg2 → tie.After-put-named5
-after-put-named5 c = c .before .before .before .before
+abbrev after-list : tie.After-put-line-arg2 → tie.After-put-named5
+after-list c = c .before .before .before .before
 
 put-named-requires : tie.Need-put-named-requires
 put-named-requires c κs =
@@ -33,52 +33,52 @@ put-named-requires c κs =
 
 put-named-requires-2 : tie.Need-put-named-requires-2
 put-named-requires-2 c κs =
-    let request = after-put-named c in
+    let request = after-request c in
     let a = at-start request .args in
     omega (arith, request-length (a .request) (a .page) (a .kind) (a .evicted) (a .list) (a .moves))
 
 put-named-requires-3 : tie.Need-put-named-requires-3
 put-named-requires-3 c κs =
-    let page = after-put-named2 c in
-    let request = after-put-named (page .before) in
+    let page = after-page c in
+    let request = after-request (page .before) in
     let a = at-start request .args in
     omega (arith, request-length (a .request) (a .page) (a .kind) (a .evicted) (a .list) (a .moves))
 
 put-named-requires-4 : tie.Need-put-named-requires-4
 put-named-requires-4 c κs =
-    let kind = after-put-named3 c in
-    let page = after-put-named2 (kind .before) in
-    let request = after-put-named (page .before) in
+    let kind = after-kind c in
+    let page = after-page (kind .before) in
+    let request = after-request (page .before) in
     let a = at-start request .args in
     omega (arith, request-length (a .request) (a .page) (a .kind) (a .evicted) (a .list) (a .moves))
 
 put-named-requires-5 : tie.Need-put-named-requires-5
 put-named-requires-5 c κs =
-    let evicted = after-put-named4 c in
-    let kind = after-put-named3 (evicted .before) in
-    let page = after-put-named2 (kind .before) in
-    let request = after-put-named (page .before) in
+    let evicted = after-evicted c in
+    let kind = after-kind (evicted .before) in
+    let page = after-page (kind .before) in
+    let request = after-request (page .before) in
     let a = at-start request .args in
     omega (arith, request-length (a .request) (a .page) (a .kind) (a .evicted) (a .list) (a .moves))
 
 put-line-requires : tie.Need-put-line-requires
 put-line-requires c κs =
-    let list = after-put-named5 c in
-    let evicted = after-put-named4 (list .before) in
-    let kind = after-put-named3 (evicted .before) in
-    let page = after-put-named2 (kind .before) in
-    let request = after-put-named (page .before) in
+    let list = after-list c in
+    let evicted = after-evicted (list .before) in
+    let kind = after-kind (evicted .before) in
+    let page = after-page (kind .before) in
+    let request = after-request (page .before) in
     let a = at-start request .args in
     omega (arith, request-length (a .request) (a .page) (a .kind) (a .evicted) (a .list) (a .moves))
 
 returns : tie.Need-returns
 unfolding requestLine
 returns c =
-    let list = after-put-named5 (c .before .before .before) in
-    let evicted = after-put-named4 (list .before) in
-    let kind = after-put-named3 (evicted .before) in
-    let page = after-put-named2 (kind .before) in
-    let request = after-put-named (page .before) in
+    let list = after-list (c .before .before .before) in
+    let evicted = after-evicted (list .before) in
+    let kind = after-kind (evicted .before) in
+    let page = after-page (kind .before) in
+    let request = after-request (page .before) in
     both (request .put-named .ensures)
     (both (page .put-named2 .ensures)
     (both (kind .put-named3 .ensures)

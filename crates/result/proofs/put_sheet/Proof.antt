@@ -11,41 +11,41 @@ use Rattle.result.proofs.put_sheet.Tie as tie
 abbrev at-start : tie.After-put-policy → tie.Start
 at-start c = c .before .before .before
 
-abbrev after-put-policy : tie.After-put-line-arg2 → tie.After-put-policy
-after-put-policy c = c .before .before .before .before
+abbrev after-policy : tie.After-put-line-arg2 → tie.After-put-policy
+after-policy c = c .before .before .before .before
 
-abbrev after-put-line : tie.After-put-tally-arg → tie.After-put-line
-after-put-line c = c .before .before .before
+abbrev after-pages : tie.After-put-tally-arg → tie.After-put-line
+after-pages c = c .before .before .before
 
-abbrev after-put-tally : tie.After-put-wait-arg → tie.After-put-tally
-after-put-tally c = c .before .before .before
+abbrev after-tally : tie.After-put-wait-arg → tie.After-put-tally
+after-tally c = c .before .before .before
 
 put-policy-requires : tie.Need-put-policy-requires
 put-policy-requires c κs = omega (arith, sheet-length (defined (c .before .before .args .o)))
 
 put-line-requires : tie.Need-put-line-requires
 put-line-requires c κs =
-    let policy = after-put-policy c in
+    let policy = after-policy c in
     omega (arith, sheet-length (defined (at-start policy .args .o)))
 
 put-tally-requires : tie.Need-put-tally-requires
 put-tally-requires c κs =
-    let pages = after-put-line c in
-    let policy = after-put-policy (pages .before) in
+    let pages = after-pages c in
+    let policy = after-policy (pages .before) in
     omega (arith, sheet-length (defined (at-start policy .args .o)))
 
 put-wait-requires : tie.Need-put-wait-requires
 put-wait-requires c κs =
-    let tally = after-put-tally c in
-    let pages = after-put-line (tally .before) in
-    let policy = after-put-policy (pages .before) in
+    let tally = after-tally c in
+    let pages = after-pages (tally .before) in
+    let policy = after-policy (pages .before) in
     omega (arith, sheet-length (defined (at-start policy .args .o)))
 
 returns : tie.Need-returns
 returns c =
-    let tally = after-put-tally (c .before .before .before) in
-    let pages = after-put-line (tally .before) in
-    let policy = after-put-policy (pages .before) in
+    let tally = after-tally (c .before .before .before) in
+    let pages = after-pages (tally .before) in
+    let policy = after-policy (pages .before) in
     put-as (sheet-parts (defined (at-start policy .args .o)))
     (both (policy .put-policy .ensures)
     (both (pages .put-line .ensures)

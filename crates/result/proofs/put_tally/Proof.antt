@@ -12,54 +12,54 @@ use Rattle.result.proofs.put_tally.Tie as tie
 abbrev at-start : tie.After-put-line → tie.Start
 at-start c = c .before .before .before .before
 
-abbrev after-put-line : tie.After-put-line-arg4 → tie.After-put-line
-after-put-line c = c .before .before .before .before
+abbrev after-requests : tie.After-put-line-arg4 → tie.After-put-line
+after-requests c = c .before .before .before .before
 
-abbrev after-put-line2 : tie.After-put-line-arg6 → tie.After-put-line2
-after-put-line2 c = c .before .before .before .before
+abbrev after-hits : tie.After-put-line-arg6 → tie.After-put-line2
+after-hits c = c .before .before .before .before
 
-abbrev after-put-line3 : tie.After-put-line-arg8 → tie.After-put-line3
-after-put-line3 c = c .before .before .before .before
+abbrev after-misses : tie.After-put-line-arg8 → tie.After-put-line3
+after-misses c = c .before .before .before .before
 
-abbrev after-put-line4 : tie.After-put-line-arg10 → tie.After-put-line4
-after-put-line4 c = c .before .before .before .before
+abbrev after-evictions : tie.After-put-line-arg10 → tie.After-put-line4
+after-evictions c = c .before .before .before .before
 
 put-line-requires : tie.Need-put-line-requires
 put-line-requires c κs = omega (arith, tally-length (defined (c .before .before .before .args .o)))
 
 put-line-requires-2 : tie.Need-put-line-requires-2
 put-line-requires-2 c κs =
-    let requests = after-put-line c in
+    let requests = after-requests c in
     omega (arith, tally-length (defined (at-start requests .args .o)))
 
 put-line-requires-3 : tie.Need-put-line-requires-3
 put-line-requires-3 c κs =
-    let hits = after-put-line2 c in
-    let requests = after-put-line (hits .before) in
+    let hits = after-hits c in
+    let requests = after-requests (hits .before) in
     omega (arith, tally-length (defined (at-start requests .args .o)))
 
 put-line-requires-4 : tie.Need-put-line-requires-4
 put-line-requires-4 c κs =
-    let misses = after-put-line3 c in
-    let hits = after-put-line2 (misses .before) in
-    let requests = after-put-line (hits .before) in
+    let misses = after-misses c in
+    let hits = after-hits (misses .before) in
+    let requests = after-requests (hits .before) in
     omega (arith, tally-length (defined (at-start requests .args .o)))
 
 put-line-requires-5 : tie.Need-put-line-requires-5
 put-line-requires-5 c κs =
-    let evictions = after-put-line4 c in
-    let misses = after-put-line3 (evictions .before) in
-    let hits = after-put-line2 (misses .before) in
-    let requests = after-put-line (hits .before) in
+    let evictions = after-evictions c in
+    let misses = after-misses (evictions .before) in
+    let hits = after-hits (misses .before) in
+    let requests = after-requests (hits .before) in
     omega (arith, tally-length (defined (at-start requests .args .o)))
 
 returns : tie.Need-returns
 unfolding tallyLines
 returns c =
-    let evictions = after-put-line4 (c .before .before .before) in
-    let misses = after-put-line3 (evictions .before) in
-    let hits = after-put-line2 (misses .before) in
-    let requests = after-put-line (hits .before) in
+    let evictions = after-evictions (c .before .before .before) in
+    let misses = after-misses (evictions .before) in
+    let hits = after-hits (misses .before) in
+    let requests = after-requests (hits .before) in
     both (requests .put-line .ensures)
     (both (hits .put-line2 .ensures)
     (both (misses .put-line3 .ensures)

@@ -1,9 +1,6 @@
 -- The key, the wait and a line feed are put, one after another.
 use borrow.Author.Needs.{needs}
-use mathlib.Core.List.{[], _∷_}
-use Rattle.sheets.specs.Lines.{lineFeed}
-use Rattle.sheets.specs.Result.{milliseconds}
-use Rattle.result.proofs.Putting.{both, room-first, room-then}
+use Rattle.result.proofs.Putting.{both, value-room, feed-room}
 use Rattle.result.proofs.put_wait.Statement.{statement}
 use Rattle.result.proofs.put_wait.Tie as tie
 
@@ -18,16 +15,13 @@ abbrev after-put-milliseconds : tie.After-put-byte-arg → tie.After-put-millise
 after-put-milliseconds c = c .before .before .before
 
 put-milliseconds-requires : tie.Need-put-milliseconds-requires
-put-milliseconds-requires c κs =
-    let p = after-put c in
-    let s = at-start p in
-    room-first (milliseconds (s .args .wait)) (lineFeed ∷ []) (room-then (p .put .ensures) (s .pre))
+put-milliseconds-requires c κs = let p = after-put c in value-room (at-start p .pre) (p .put .ensures)
 
 put-byte-requires : tie.Need-put-byte-requires
 put-byte-requires c κs =
     let m = after-put-milliseconds c in
     let p = after-put (m .before) in
-    room-then (m .put-milliseconds .ensures) (room-then (p .put .ensures) (at-start p .pre))
+    feed-room (at-start p .pre) (p .put .ensures) (m .put-milliseconds .ensures)
 
 returns : tie.Need-returns
 returns c =

@@ -13,8 +13,8 @@ use Rattle.result.proofs.write_refusal.Tie as tie
 abbrev at-start : tie.After-put-line-arg2 → tie.Start
 at-start c = c .before .before .before .before
 
-abbrev after-put-line : tie.After-put-line-arg4 → tie.After-put-line
-after-put-line c = c .before .before .before .before
+abbrev after-refused : tie.After-put-line-arg4 → tie.After-put-line
+after-refused c = c .before .before .before .before
 
 returns : tie.Need-returns
 returns c =
@@ -28,7 +28,7 @@ put-line-requires c κs =
 
 put-line-requires-2 : tie.Need-put-line-requires-2
 put-line-requires-2 c κs =
-    let s = at-start (after-put-line c .before) in
+    let s = at-start (after-refused c .before) in
     let first = count-length (bytes "refused=") (s .args .number) (omega arith) in
     let second = count-length (bytes "line=") (s .args .line) (omega arith) in
     omega arith
@@ -36,7 +36,7 @@ put-line-requires-2 c κs =
 returns-2 : tie.Need-returns-2
 unfolding refusedSheet
 returns-2 c =
-    let first = after-put-line (c .before .before .before) in
+    let first = after-refused (c .before .before .before) in
     let e = first .before .before .before in
     let a = e .before .before .args in
     text-written (refusedSheet (a .number) (a .line)) (a .out .now) (e .if1 .left)
