@@ -37,10 +37,14 @@ under-target : (c : tie.Else1) (d : Directory) → Holds d (at-start (c .before)
 under-target c d is = sym (c .before .t1-at-target .ensures d is) ∙ c .if1 .left
 
 t1-some : (c : tie.Then1) → 1 ≤ ∣ at-start (c .before) .pre .1 .0 .dir .t1 ∣
-t1-some c = let p = at-start (c .before) .pre .1 .0 in at-target-some (p .dir) (at-target c (p .dir) (p .shown))
+t1-some c =
+    let p = at-start (c .before) .pre .1 .0 in
+    at-target-some (p .dir) (at-target c (p .dir) (p .shown))
 
 t2-some : (c : tie.Else1) → 1 ≤ ∣ at-start (c .before) .pre .1 .0 .dir .t2 ∣
-t2-some c = let p = at-start (c .before) .pre .1 .0 in under-target-some (p .accounts) (under-target c (p .dir) (p .shown))
+t2-some c =
+    let p = at-start (c .before) .pre .1 .0 in
+    under-target-some (p .accounts) (under-target c (p .dir) (p .shown))
 
 demote-head-requires : tie.Need-demote-head-requires
 demote-head-requires c κs =

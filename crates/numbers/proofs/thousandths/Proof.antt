@@ -28,4 +28,5 @@ cast-result c =
 
 pub thousandths-spec : {M : Type 1} → statement M
 thousandths-spec =
-    tie.close (tie.spec (λ c κs. search needs) mul-result (λ c κs. search needs) add-result cast-result (λ c. search needs))
+    tie.close
+    (tie.spec (λ c κs. search needs) mul-result (λ c κs. search needs) add-result cast-result (λ c. search needs))

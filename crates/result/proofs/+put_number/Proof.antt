@@ -39,16 +39,19 @@ calls t = (
 )
 
 module _ (t : ℕ) where
-  last-digit-requires : put-number-lts.Need-last-digit-requires (calls t) (put-number-at t) put-number.Post
-  last-digit-requires c κs = search needs
+  -- The places that are looked back to.
+  abbrev at-start : put-number-lts.After-put-number (calls t) (put-number-at t) put-number.Post
+      → put-number-lts.Start (calls t) (put-number-at t) put-number.Post
+  at-start c = c .before .before .before .before
+
+  abbrev after-put-number : put-number-lts.After-last-digit2 (calls t) (put-number-at t) put-number.Post
+      → put-number-lts.After-put-number (calls t) (put-number-at t) put-number.Post
+  after-put-number c = c .before .before .before .before
 
   put-byte-requires : put-number-lts.Need-put-byte-requires (calls t) (put-number-at t) put-number.Post
   put-byte-requires c κs =
       let n = c .before .before .before .before .args .n in
       omega (arith, ap length (decimal-one n (omega arith)))
-
-  same-length : put-number-lts.Need-same-length (calls t) (put-number-at t) put-number.Post
-  same-length c = search needs
 
   returns : put-number-lts.Need-returns (calls t) (put-number-at t) put-number.Post
   returns c =
@@ -63,38 +66,32 @@ module _ (t : ℕ) where
       let more = decimal-more (s .args .n) (omega arith) (omega arith) in
       (omega arith, room-first (decimal (s .args .n / 10)) (lastDigit (s .args .n) ∷ []) (room-as more (s .pre .1)))
 
-  last-digit-requires-2 : put-number-lts.Need-last-digit-requires-2 (calls t) (put-number-at t) put-number.Post
-  last-digit-requires-2 c κs = search needs
-
   put-byte-requires-2 : put-number-lts.Need-put-byte-requires-2 (calls t) (put-number-at t) put-number.Post
   put-byte-requires-2 c κs =
-      let p = c .before .before .before .before in
-      let s = p .before .before .before .before in
+      let p = after-put-number c in
+      let s = at-start p in
       let more = decimal-more (s .args .n) (omega arith) (omega arith) in
       record { fits = room-then (p .put-number .ensures) (room-as more (s .pre .1)) .fits }
-
-  same-length-2 : put-number-lts.Need-same-length-2 (calls t) (put-number-at t) put-number.Post
-  same-length-2 c = search needs
 
   returns-2 : put-number-lts.Need-returns-2 (calls t) (put-number-at t) put-number.Post
   returns-2 c =
       let l = c .before .before .before in
-      let p = l .before .before .before .before in
-      let n = p .before .before .before .before .args .n in
-      put-as
-      (ap (λ (d : ℕ). decimal (n / 10) ++ (d ∷ [])) (l .last-digit2 .ensures) ∙ sym (decimal-more n (omega arith) (omega arith)))
+      let p = after-put-number l in
+      let n = at-start p .args .n in
+      let last = ap (λ (d : ℕ). decimal (n / 10) ++ (d ∷ [])) (l .last-digit2 .ensures) in
+      put-as (last ∙ sym (decimal-more n (omega arith) (omega arith)))
       (both (p .put-number .ensures) (c .before .before .put-byte2 .ensures))
 
 pub +put-number-spec : {M : Type 1} → statement M
 +put-number-spec =
     close μ-put-number
     (λ t. put-number-lts.spec (calls t) (put-number-at t) put-number.Post
-    (last-digit-requires t)
+    (λ c κs. search needs)
     (put-byte-requires t)
-    (same-length t)
+    (λ c. search needs)
     (returns t)
     (put-number-requires t)
-    (last-digit-requires-2 t)
+    (λ c κs. search needs)
     (put-byte-requires-2 t)
-    (same-length-2 t)
+    (λ c. search needs)
     (returns-2 t))

@@ -6,11 +6,17 @@ use Rattle.scoring.proofs.lends_enough.Tie as tie
 
 returns : tie.Need-returns
 unfolding enough
-returns c = simp (le-leb _ _ (c .before .before .if1 .taken), le-leb _ _ (c .before .if2 .taken), le-leb _ _ (c .if3 .taken))
+returns c =
+    let pages = c .before .before .if1 .taken in
+    let dir = c .before .if2 .taken in
+    simp (le-leb _ _ pages, le-leb _ _ dir, le-leb _ _ (c .if3 .taken))
 
 returns-2 : tie.Need-returns-2
 unfolding enough
-returns-2 c = simp (le-leb _ _ (c .before .before .if1 .taken), le-leb _ _ (c .before .if2 .taken), lt-leb _ _ (c .if3 .left))
+returns-2 c =
+    let pages = c .before .before .if1 .taken in
+    let dir = c .before .if2 .taken in
+    simp (le-leb _ _ pages, le-leb _ _ dir, lt-leb _ _ (c .if3 .left))
 
 returns-3 : tie.Need-returns-3
 unfolding enough

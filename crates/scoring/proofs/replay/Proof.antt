@@ -11,4 +11,5 @@ returns c =
     ran-fresh (made .before .before .before .before .before .pre) (made .fresh .ensures) (ran .run .ensures)
 
 pub replay-spec : {M : Type 1} → statement M
-replay-spec = tie.close (tie.spec (λ c κs. search needs) (λ c κs. search needs) (λ c. search needs) (λ c. search needs) returns)
+replay-spec =
+    tie.close (tie.spec (λ c κs. search needs) (λ c κs. search needs) (λ c. search needs) (λ c. search needs) returns)

@@ -39,7 +39,8 @@ returns-2 c =
     let t2 = long-in-t2 (c .before .before) in
     fails _ (λ h. let said = simp reads at h in c .if2 .taken (omega (arith, total-append short (d .t2) (d .b2))))
 
-long-in-b2 : (c : tie.After-count2) → c .count2 .result ≡ total long (decode (at-start (after-count c) .args .dir .now) .b2)
+long-in-b2 : (c : tie.After-count2)
+    → c .count2 .result ≡ total long (decode (at-start (after-count c) .args .dir .now) .b2)
 long-in-b2 c = told (b2-stands (at-start (after-count c) .pre)) _ _ (c .count2 .ensures .1) (omega arith) (omega arith)
 
 returns-3 : tie.Need-returns-3

@@ -8,7 +8,8 @@ use borrow.Author.Tests.{not-true, not-false}
 use Rattle.terms.proofs.Tests.{reads}
 use Rattle.soundness.specs.Orderly.{sizesFit}
 use Rattle.soundness.proofs.Tests.{denied}
-use Rattle.soundness.proofs.Rules.{flagsKnown, restZero, sound-sizes, sound-flags, sound-zeros, held, sound-entries}
+use Rattle.soundness.proofs.Rules.{flagsKnown, restZero, held}
+use Rattle.soundness.proofs.Rules.{sound-sizes, sound-flags, sound-zeros, sound-entries}
 use borrow.Author.Needs.{needs}
 use Rattle.soundness.proofs.is_sound.Statement.{statement}
 use Rattle.soundness.proofs.is_sound.Tie as tie
