@@ -19,11 +19,12 @@ use Rattle.figures.specs.Demands.{pagesFrom, allTwice, lastMoves, CarReached, C
 use Rattle.laws.proofs.Requests.{serve-hit, serve-room, serve-full, missed-moves, after, run-after, after-append}
 use Rattle.laws.proofs.Lists.{is, total-append, counts-has, is-itself}
 
--- What the pages from x on, n of them, are made by f.
+-- What f makes of n pages, from x on.
 abbrev made : (ℕ → Entry) → ℕ → ℕ → List Entry
 made f x zero = []
 made f x (suc n) = f x ∷ made f (suc x) n
 
+-- A page that was new and then hit.
 abbrev hitOnce : ℕ → Entry
 hitOnce x = marked (newShort x)
 
