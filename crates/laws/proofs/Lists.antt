@@ -22,10 +22,11 @@ pub record HasHead (l : List Entry) : Type 0 where
   pub head : Entry
   pub rest : List Entry
   pub front : l ≡ head ∷ rest
+  pub rest-is : rest ≡ dropHead l
 
 pub has-head : (l : List Entry) → 1 ≤ ∣ l ∣ → HasHead l
 has-head [] h = absurd (omega arith)
-has-head (e ∷ es) h = record { head = e; rest = es; front = refl }
+has-head (e ∷ es) h = record { head = e; rest = es; front = refl; rest-is = refl }
 
 pub length-tail : (l : List Entry) (e : Entry) → ∣ l ++ (e ∷ []) ∣ ≡ ∣ l ∣ + 1
 length-tail l e = length-append l (e ∷ []) ∙ omega arith

@@ -1,7 +1,7 @@
 -- What CAR and CART share: turns of a head to a tail of T1 or T2, the choice between the two, the demotion, the trim.
 -- Each law is over any count of entries, so that a size, which counts ones, needs no law of its own.
 use mathlib.Core.Path.{_≡_, refl, ap}
-use mathlib.Core.List.{List, [], _∷_}
+use mathlib.Core.List.{List, _∷_}
 use Prim.Native.Nat.{ℕ, _+_, _≤_}
 use native.Mathlib.Omega.{arith}
 use lib.Dec.{eqb}
@@ -13,7 +13,7 @@ use Rattle.figures.specs.Directory.{Directory, Name, T1, T2, B1, B2, withList, 
 use Rattle.figures.specs.Directory.{cached, remembered, inCache, t1AtTarget}
 use Rattle.figures.specs.Hand.{Hand, begin, withDir, withCounts, demote}
 use Rattle.figures.specs.Demands.{Evicts, byPage, HeadDropped}
-use Rattle.laws.proofs.Lists.{is, one, total-tail, total-head-dropped, length-head-dropped}
+use Rattle.laws.proofs.Lists.{has-head, is, one, total-tail, total-head-dropped, length-head-dropped}
 use Rattle.laws.proofs.Facts.{inHistory, cached-counts, remembered-counts, Shared, Opened, Trimmed}
 
 -- The hand with l for its list i. With that list itself it is the same hand, so that a law by clauses on l is a law of
@@ -153,16 +153,12 @@ module _ {d : Directory} (shared : Shared d) where
 
 -- A trim takes the head of one history, or nothing.
 
-front-of : (l : List Entry) → 1 ≤ ∣ l ∣ → (e : Entry) × (l ≡ e ∷ dropHead l)
-front-of [] some = absurd (omega arith)
-front-of (e ∷ es) some = (e, refl)
-
 module _ (d : Directory) where
   pub dropped-b1 : 1 ≤ ∣ d .b1 ∣ → HeadDropped B1 d (withList B1 (dropHead (d .b1)) d)
-  dropped-b1 some = let f = front-of (d .b1) some in record { head = f .0; was-there = f .1; else-same = refl }
+  dropped-b1 some = let f = has-head (d .b1) some in record { head = f .head; was-there = (cc); else-same = refl }
 
   pub dropped-b2 : 1 ≤ ∣ d .b2 ∣ → HeadDropped B2 d (withList B2 (dropHead (d .b2)) d)
-  dropped-b2 some = let f = front-of (d .b2) some in record { head = f .0; was-there = f .1; else-same = refl }
+  dropped-b2 some = let f = has-head (d .b2) some in record { head = f .head; was-there = (cc); else-same = refl }
 
   trimmed : {b1 b2 : List Entry} → ((count : Entry → ℕ) → total count b1 ≤ total count (d .b1))
       → ((count : Entry → ℕ) → total count b2 ≤ total count (d .b2)) → ∣ b1 ∣ + ∣ b2 ∣ ≤ d .c
