@@ -58,7 +58,7 @@ module _ (s : List ℕ) (at : ℕ) where
         inside = h;
         reads =
             lines-closed (drop at s) (omega (arith, length-drop at s))
-            ∙ rw (drop-drop, onward, width) refl;
+            ∙ rw (drop-drop, onward, width);
       }
 
   lacks : ∣ s ∣ ≤ at + far → MissingAt s at

@@ -19,7 +19,7 @@ use prog.Wp.{Heap, WpFn, Tables, Closed}
 use ghost.Atoms.{Atoms}
 use contract.Monad.{Fun}
 use contract.Running.{Running, GhostRules, givenOf, tables, tablesOf}
-use types.Kit.{Given, ‵, raw, _⊛_, given, ⋆, _$_, _∵_, !, qed, by, move, drop, use1, use2, split, learn, rewrite}
+use types.Kit.{Given, ‵, raw, _⊛_, ⋆, _$_, _∵_, !, qed, by, move, use2, split, rewrite}
 use types.Part.{whole, sub, look-in}
 use types.Run.{look, init, stop, fld, from, load, of-opd, and-then, no-more, land, assigns, returns, enter}
 use types.Run.{alloc1, alloc0, params1, pass1, pass0, free0}
@@ -33,7 +33,6 @@ use denote.Steps.{only, peeks}
 use denote.Struct.At.{FieldAt, lawAt, getAt, spelled, val-get}
 use denote.Struct.Declared.{Declared}
 use denote.Struct.Laws as LL
-use denote.Struct.Rest.{all-own, ownAt, rest, own-open, own-out}
 use denote.Struct.Values.{Values}
 use denote.Triple.Statement.{Contract, Triple}
 use denote.Triple.Call.{calls-at}
@@ -42,7 +41,7 @@ use denote.Triple.Table.{cited}
 use denote.Triple.Clauses.{Clauses, closing}
 use Rattle.lines.specs.Stretch.{LookedUp}
 use Rattle.lines.specs.declared.Found.{Found}
-use Rattle.lines.proofs.Walk.{answers, free-at, val, OwnsBytes, SliceTyped, TokenAndSlice}
+use Rattle.lines.proofs.Walk.{answers, take-out, free-at, val, OwnsBytes, SliceTyped, TokenAndSlice}
 use Rattle.lines.proofs.Walk.{ended, passed, Ensured, WalkPost, hands, leaves, by-walk}
 use Rattle.lines.proofs.Found as T
 use Rattle.lines.proofs.Found.Laws as T′
@@ -135,13 +134,8 @@ module _ {M : Type 1} (𝓤 : URA M) (H : Heap 𝓤) (A : Atoms 𝓤) (mem : Mem
             -- [the answer; the token; what the slice owns; room for _3; …; _2; …; _1; …; room for _0; …]
             land ! (from ! (stop !))
             (init ! 3 refl (LL.lawful (T.the-type α₃) (T′.the-laws α₃) 𝓤 H A W .typed d _ is .0)) $
-            -- the answer is opened, and what the field owns is taken out of it
-            use1 W (given (u ∷ [] ≡ T′.lowered d ∷ []) (‵ (all-own (D κ .parts) (L κ) (fields κ d))))
-            (own-open 𝓤 H A W (D κ) (L κ) (fields κ d) u) $ learn ! (λ is-answer.
+            take-out W (D κ) (L κ) (fields κ d) k u (λ is-answer.
             rewrite ! 3 (λ (w : Val). ‵ (fat fullShare (T′.mir erased) l₃ 0 w)) (ap only is-answer) refl $
-            use1 W (‵ (ownAt (D κ .parts) (L κ) k (getAt (D κ .parts) k (fields κ d))) ⊛
-            ‵ (rest (D κ .parts) (L κ) k (fields κ d)))
-            (own-out 𝓤 H A W (D κ .parts) (L κ) k (fields κ d)) $ split ! $ move ! (1 ∷ []) $ drop ! $
             rewrite ! 0 (λ (w : Val). ‵ (Row k κ .own (valued k κ d) (w ∷ [])))
             (sym (val-get (D κ .parts) (L κ) k (fields κ d))) refl $
             peeks ! (Row k κ) (Is (Row k κ)) (shows 𝓤 H A (Row k κ)) (valued k κ d) (word k κ d ∷ []) (λ is-field.

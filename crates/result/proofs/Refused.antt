@@ -42,7 +42,8 @@ module _ (o : Outcome) (out : List ℕ) where
   sheet-policy not = record { number-is = rw not; count-is = rw not; bytes-are = rw not }
 
   -- Of a known policy the sheet is written as any text is.
-  pub sheet-as-text : knownPolicy (o .policy) ≡ true → onWrite (defined o) out ≡ onWriteText (resultSheet (defined o)) out
+  pub sheet-as-text : knownPolicy (o .policy) ≡ true
+      → onWrite (defined o) out ≡ onWriteText (resultSheet (defined o)) out
   unfolding onWrite onWriteText
   sheet-as-text known = rw known
 

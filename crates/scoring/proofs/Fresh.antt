@@ -1,5 +1,5 @@
 -- A run from a fresh directory is accepted, whatever its trace, where all that is lent has room.
-use mathlib.Core.Path.{_≡_, refl, sym, ap, _∙_}
+use mathlib.Core.Path.{_≡_, sym, ap, _∙_}
 use mathlib.Core.Bool.{true}
 use mathlib.Core.List.{List}
 use Prim.Native.Nat.{ℕ, _+_, _*_}
@@ -29,7 +29,7 @@ module _ {policy c : ℕ} {w trace answers : List ℕ} (h : Fitting policy c w t
 
   pub fresh-accepted : onFresh policy c w .words ≡ encode (fresh policy c)
   unfolding onFresh freshNumber
-  fresh-accepted = rw (h .policy-known, size-known, eq-eqb ∣ w ∣ (8 + 4 * c) (h .exact)) refl
+  fresh-accepted = rw (h .policy-known, size-known, eq-eqb ∣ w ∣ (8 + 4 * c) (h .exact))
 
   sound-words : checkNumber (encode d) ≡ 0
   unfolding onCheck
@@ -43,7 +43,7 @@ module _ {policy c : ℕ} {w trace answers : List ℕ} (h : Fitting policy c w t
   run-accepted =
       let few = le-ltb 1000 ∣ trace ∣ (h .few) in
       let room = le-ltb ∣ answers ∣ (4 * ∣ trace ∣) (h .room) in
-      rw (sound-words, few, room, decode-encode) refl
+      rw (sound-words, few, room, decode-encode)
 
   pub ran-fresh : {number : ℕ} {w′ w″ answers′ : List ℕ} {r : Ran} → Freshened policy c w number w′
       → Replayed w′ trace answers r w″ answers′ → RanFresh policy c trace answers (r .tally) w″ answers′

@@ -32,7 +32,7 @@ module _ (s w : List ℕ) (room : 1000 ≤ ∣ w ∣) (r : Bid) (w′ : List ℕ
   refused-as : (m : Meaning) → ReadAs (answer m w) r w′ → (r .number ≡ 0 → ⊥) → Refused m w r w′
   refused-as (bid b) a some = absurd (some (a .number-is))
   refused-as (refused number line) a some = record {
-    means-refusal = rw (a .number-is, a .line-is) refl;
+    means-refusal = rw (a .number-is, a .line-is);
     words-stay = a .words-are;
   }
 
@@ -45,7 +45,7 @@ module _ (s w : List ℕ) (room : 1000 ≤ ∣ w ∣) (r : Bid) (w′ : List ℕ
       let pages : take (r .count) w′ ≡ b .pages
       = ap (take (r .count)) (a .words-are) ∙ take-at (b .pages) _ (r .count) (sym (a .count-is)) in
       record {
-        means-bid = rw (a .policy-is, a .c-is, a .cost-is, pages) refl;
+        means-bid = rw (a .policy-is, a .c-is, a .cost-is, pages);
         as-many = ap ∣_∣ pages ∙ sym (a .count-is);
         words-are = a .words-are ∙ ap (λ (listed : List ℕ). over listed w) (sym pages);
       }

@@ -20,23 +20,17 @@ use Rattle.text.proofs.Text.{from-place}
 -- A LOOP OVER DIGITS
 
 module _ (s : List ℕ) (i : ℕ) (inside : i < ∣ s ∣) where
-  abbrev goes-on : Bool → Bool
-  goes-on t = if t then allDigits (drop (i + 1) s) else false
-
-  digits-from : allDigits (drop i s) ≡ goes-on (isDigit (getD s i 0))
-  digits-from = ap allDigits (from-place s i inside)
-
   pub digit-here : isDigit (getD s i 0) ≡ true → allDigits (drop i s) ≡ allDigits (drop (i + 1) s)
-  digit-here is = digits-from ∙ ap goes-on is
+  digit-here is = rw (from-place s i inside, is)
 
   pub no-digit-here : isDigit (getD s i 0) ≡ false → allDigits (drop i s) ≡ false
-  no-digit-here isnt = digits-from ∙ ap goes-on isnt
+  no-digit-here isnt = rw (from-place s i inside, isnt)
 
   -- What all digits from a place on say of the byte there and of the rest.
   pub digit-and-rest : allDigits (drop i s) ≡ true
       → (zeroDigit ≤ getD s i 0) × (getD s i 0 ≤ zeroDigit + 9) × (allDigits (drop (i + 1) s) ≡ true)
   digit-and-rest all =
-      let said = simp reads at (sym digits-from ∙ all) in (omega arith, omega arith, said .1)
+      let said = simp reads at (rw (from-place s i inside) at all) in (omega arith, omega arith, said .1)
 
   pub value-from : (n : ℕ) → valueAfter n (drop i s) ≡ valueAfter (10 * n + (getD s i 0 - zeroDigit)) (drop (i + 1) s)
   value-from n = ap (valueAfter n) (from-place s i inside)

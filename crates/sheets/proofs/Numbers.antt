@@ -7,10 +7,11 @@ use Prim.Native.Nat.{ℕ, zero, suc, _+_, _-_, _*_, _/_, _%_, _^_, _≤_, _<_}
 use native.Mathlib.Omega.{arith}
 use lib.ListN.{getD, length-append, List·getD-append}
 use lib.Seq.{take-append-seam, drop-append-add}
-use lib.Dec.{leb, ltb, eqb}
-use borrow.Author.Tests.{ltb-true, ltb-false, lt-ltb, le-ltb, le-leb, ne-eqb, eqb-false}
+use lib.Dec.{ltb, eqb}
+use borrow.Author.Tests.{ltb-true, ltb-false, lt-ltb, le-ltb, ne-eqb, eqb-false}
 use Rattle.terms.specs.Choice.{if_then_else_, ∣_∣}
 use Rattle.terms.proofs.Choice.{by-test}
+use Rattle.terms.proofs.Tests.{reads}
 use Rattle.bytes.specs.Bytes.{indexAfter, indexOf}
 use Rattle.sheets.specs.Number.{means, zeroDigit, comma, isDigit, allDigits, value, valueAfter}
 use Rattle.sheets.specs.Number.{noLeadingZero, digitsForm, beforeComma, afterComma}
@@ -33,12 +34,10 @@ by-digits P one more (suc k) n h =
 
 -- Room for more digits changes nothing.
 one-digit : (k n : ℕ) → n < 10 → inDigits (suc k) n ≡ lastDigit n ∷ []
-one-digit k n h =
-    ap (λ (b : Bool). if b then lastDigit n ∷ [] else inDigits k (n / 10) ++ (lastDigit n ∷ [])) (lt-ltb n 10 h)
+one-digit k n h = rw (lt-ltb n 10 h)
 
 more-digits : (k n : ℕ) → 10 ≤ n → inDigits (suc k) n ≡ inDigits k (n / 10) ++ (lastDigit n ∷ [])
-more-digits k n h =
-    ap (λ (b : Bool). if b then lastDigit n ∷ [] else inDigits k (n / 10) ++ (lastDigit n ∷ [])) (le-ltb n 10 h)
+more-digits k n h = rw (le-ltb n 10 h)
 
 more-room : (k n : ℕ) → n < 10 ^ suc k → inDigits (suc (suc k)) n ≡ inDigits (suc k) n
 more-room zero n h = one-digit 1 n h ∙ sym (one-digit 0 n h)
@@ -64,21 +63,14 @@ value-behind n [] d = refl
 value-behind n (b ∷ s) d = value-behind (10 * n + (b - zeroDigit)) s d
 
 last-is-digit : (n : ℕ) → isDigit (lastDigit n) ≡ true
-last-is-digit n =
-    let b = lastDigit n in
-    ap (λ (t : Bool). if t then leb b 57 else false) (le-leb 48 b (omega arith)) ∙ le-leb b 57 (omega arith)
+last-is-digit n = simp reads (omega arith, omega arith)
 
 all-behind : (s t : List ℕ) → allDigits s ≡ true → allDigits t ≡ true → allDigits (s ++ t) ≡ true
 all-behind [] t h k = k
-all-behind (b ∷ s) t h k = go (isDigit b) h (λ all. all-behind s t all k)
-  where
-    go : (test : Bool) → (if test then allDigits s else false) ≡ true → (allDigits s ≡ true → allDigits (s ++ t) ≡ true)
-        → (if test then allDigits (s ++ t) else false) ≡ true
-    go true h i = i h
-    go false h i = h
+all-behind (b ∷ s) t h k = let said = simp reads at h in simp reads (said .0, all-behind s t (said .1) k)
 
 last-alone : (n : ℕ) → allDigits (lastDigit n ∷ []) ≡ true
-last-alone n = ap (λ (t : Bool). if t then true else false) (last-is-digit n)
+last-alone n = rw (last-is-digit n)
 
 pub record Digits (n : ℕ) (s : List ℕ) : Type 0 where
   pub worth : value s ≡ n

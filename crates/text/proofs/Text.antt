@@ -5,22 +5,22 @@ use mathlib.Core.Bool.{Bool, true, false, false≢true}
 use mathlib.Core.List.{List, [], _∷_}
 use Prim.Native.Nat.{ℕ, zero, suc, _+_, _-_, _≤_, _<_}
 use native.Mathlib.Nat.{sub-zero, zero-sub, suc-sub-suc}
+use native.Mathlib.Numerals.{add-one}
 use native.Mathlib.Omega.{arith}
 use lib.ListN.{getD, take, drop, length-drop}
 use lib.Seq.{drop-cons, take-nil, length-take-le}
-use lib.Dec.{eqb, ltb}
-use borrow.Author.Tests.{eq-eqb, ne-eqb, ltb-true, ltb-false}
+use lib.Dec.{eqb}
+use borrow.Author.Tests.{eq-eqb, ne-eqb}
 use Rattle.terms.specs.Choice.{if_then_else_, ∣_∣, same}
 use Rattle.terms.proofs.Choice.{either}
+use Rattle.terms.proofs.Tests.{reads}
 use Rattle.text.specs.Text.{starts}
 
 -- PARTS
 
 -- From a place inside: the byte there, then those from the next place.
 pub from-place : (s : List ℕ) (i : ℕ) → i < ∣ s ∣ → drop i s ≡ getD s i 0 ∷ drop (i + 1) s
-from-place s i inside =
-    let next : suc i ≡ i + 1 = omega arith in
-    drop-cons s i 0 inside ∙ ap (λ (n : ℕ). getD s i 0 ∷ drop n s) next
+from-place s i inside = rw (add-one, drop-cons s i 0 inside)
 
 -- Cut behind and then in front, or in front and then behind.
 pub drop-take : (from to : ℕ) (s : List ℕ) → drop from (take to s) ≡ take (to - from) (drop from s)
@@ -41,27 +41,17 @@ short-lacks (k ∷ key) [] h = refl
 short-lacks (k ∷ key) (b ∷ s) h = either (λ t. t ≡ false) (eqb b k) (short-lacks key s (omega arith)) refl
 
 pub starts-fits : (key s : List ℕ) → starts key s ≡ true → ∣ key ∣ ≤ ∣ s ∣
-starts-fits key s is = fits (ltb ∣ s ∣ ∣ key ∣) refl
-  where
-    fits : (t : Bool) → ltb ∣ s ∣ ∣ key ∣ ≡ t → ∣ key ∣ ≤ ∣ s ∣
-    fits true test = absurd (false≢true (sym (short-lacks key s (ltb-true ∣ s ∣ ∣ key ∣ test)) ∙ is))
-    fits false test = ltb-false ∣ s ∣ ∣ key ∣ test
+starts-fits [] s is = omega arith
+starts-fits (k ∷ key) [] is = absurd (false≢true is)
+starts-fits (k ∷ key) (b ∷ s) is = let both = simp reads at is in omega (arith, starts-fits key s (both .1))
 
 module _ (key s : List ℕ) (i : ℕ) (in-key : i < ∣ key ∣) (in-bytes : i < ∣ s ∣) where
-  abbrev goes-on : Bool → Bool
-  goes-on t = if t then starts (drop (i + 1) key) (drop (i + 1) s) else false
-
-  both-from-here : starts (drop i key) (drop i s) ≡ goes-on (eqb (getD s i 0) (getD key i 0))
-  both-from-here =
-      ap (λ k. starts k (drop i s)) (from-place key i in-key)
-      ∙ ap (starts (getD key i 0 ∷ drop (i + 1) key)) (from-place s i in-bytes)
-
   pub key-goes-on : getD s i 0 ≡ getD key i 0
       → starts (drop i key) (drop i s) ≡ starts (drop (i + 1) key) (drop (i + 1) s)
-  key-goes-on is = both-from-here ∙ ap goes-on (eq-eqb (getD s i 0) (getD key i 0) is)
+  key-goes-on is = rw (from-place key i in-key, from-place s i in-bytes, eq-eqb (getD s i 0) (getD key i 0) is)
 
   pub key-differs : (getD s i 0 ≡ getD key i 0 → ⊥) → starts (drop i key) (drop i s) ≡ false
-  key-differs isnt = both-from-here ∙ ap goes-on (ne-eqb (getD s i 0) (getD key i 0) isnt)
+  key-differs isnt = rw (from-place key i in-key, from-place s i in-bytes, ne-eqb (getD s i 0) (getD key i 0) isnt)
 
 -- TWO TEXTS
 

@@ -16,7 +16,7 @@ use ghost.Atoms.{Atoms, sem}
 use contract.Lifetimes.{Lfts}
 use contract.Monad.{Fun}
 use contract.Running.{givenOf, tables, tablesOf}
-use types.Kit.{Given, ‵, raw, _⊛_, given, ⋆, _$_, _∵_, !, qed, by, move, drop, use1, use2, split, learn}
+use types.Kit.{Given, ‵, raw, _⊛_, ⋆, _$_, _∵_, !, qed, by, move, drop, use1, use2, split}
 use types.Kit.{fsplit, fjoin, suffices, frame, done}
 use types.Part.{whole, sub, look-in}
 use types.Run.{look, init, stop, fld, from, load, of-opd, and-then, no-more, assigns, land, returns, enter}
@@ -29,7 +29,6 @@ use denote.Steps.{nothing}
 use denote.Enum.Laws as EL
 use denote.Struct.Declared.{Declared}
 use denote.Struct.Laws as LL
-use denote.Struct.Rest.{all-own, ownAt, rest, own-open, own-out}
 use denote.Struct.Values.{Values}
 use denote.Triple.Statement.{Contract, Triple}
 use denote.Triple.Call.{calls-at}
@@ -41,7 +40,7 @@ use denote.Exit.{yes}
 use Rattle.lines.specs.Cursor.{lineAt}
 use Rattle.lines.specs.declared.SheetReader.{SheetReader}
 use Rattle.lines.specs.declared.Line.{Line}
-use Rattle.lines.proofs.Walk.{answers, free-at, Alive, passed, hand-over}
+use Rattle.lines.proofs.Walk.{answers, take-out, free-at, Alive, passed, hand-over}
 use Rattle.lines.proofs.SheetReader as T
 use Rattle.lines.proofs.SheetReader.Laws as T′
 use Rattle.lines.proofs.Line as S
@@ -115,11 +114,8 @@ module _ {M : Type 1} (𝓤 : URA M) (H : Heap 𝓤) (A : Atoms 𝓤) (mem : Mem
           qed W (Alive κ q ∷ ‵ (owns (Reader (κ, tt) ∷ []) (d, tt) (mach ∷ [], tt)) ∷ []) ∵
           move ! (1 ∷ []) $ fsplit ! $ move ! (1 ∷ []) $ drop ! $
           use1 W (‵ OwnsReader ⊛ ‵ OwnsReader) (LL.copy D (T′.the-copy α) 𝓤 H A W .twice d (mach ∷ [])) $ split ! $
-          use1 W (given (mach ∷ [] ≡ mach ∷ []) (‵ (all-own (D .parts) L fields))) (own-open 𝓤 H A W D L fields mach) $
-          learn ! (λ _. use1 W (‵ (ownAt (D .parts) L 0 (d .sheet)) ⊛ ‵ (rest (D .parts) L 0 fields))
-          (own-out 𝓤 H A W (D .parts) L 0 fields) $
-          -- [what the slice owns; what the place owns; what the reader owns; the token]
-          split ! $ move ! (1 ∷ []) $ drop ! $ move ! (0 ∷ 2 ∷ []) $
+          -- [what the slice owns; what the reader owns; the token]
+          take-out W D L fields 0 mach (λ _. move ! (0 ∷ 2 ∷ []) $
           use2 W (raw (LineFrom .pre to)) (hand-over 𝓤 H A W w64 κ q (d .sheet) (d .at) fits) $ frame ! $ done !)
 
       exits : (r : Line) (u : Val) → r ≡ found
