@@ -33,39 +33,40 @@ keptAtStart n longs =
     record { short = record { 0 = n - longs }; long = record { 0 = longs }; hand = record { moves = 0; cleared = 0 } }
 
 module _ {w : List ℕ} (f : Full cart w) where
-  abbrev a : Filled cart w
-  a = filled f
+  abbrev held : Filled cart w
+  held = filled f
 
   own : CartFacts (decode w)
-  own = cart-iff (decode w) .0 (a .own)
+  own = cart-iff (decode w) .0 (held .own)
 
   pub stops : CartStops (decode w)
-  stops = cart-stops (decode w) (a .shared) own (a .full)
+  stops = cart-stops (decode w) (held .shared) own (held .full)
 
   -- What `count` says of the entries of T1 and T2.
   module _ (longs : ℕ) (counts : OfEntries w 8 (nT1 w + nT2 w) (λ l. longs ≡ total (ofFlag 2) l)) where
     counts-longs : longs ≡ inCache long (decode w)
     counts-longs =
         let d = decode w in
-        let r = header d w (a .is) in
-        told (cache-held d w (a .is)) counts refl (simp length-append (omega arith)) ∙ total-append long (d .t1) (d .t2)
+        let r = header d w (held .is) in
+        told (cache-held d w (held .is)) counts refl (simp length-append (omega arith))
+        ∙ total-append long (d .t1) (d .t2)
 
     pub begins-passing : Passing Holds w (keptAtStart (nT1 w + nT2 w) longs)
     begins-passing =
         let d = decode w in
-        let r = header d w (a .is) in
+        let r = header d w (held .is) in
         let n = counts-longs in
         let most-t1 = total-at-most cost 2 cost-at-most-two (d .t1) in
         let most-t2 = total-at-most bits 1 bits-at-most-one (d .t2) in
         record {
           dir = d;
-          shown = a .is;
-          accounts = omega (arith, a .shared, own, a .full, short-and-long (d .t1), short-and-long (d .t2));
+          shown = held .is;
+          accounts = omega (arith, held .shared, own, held .full, short-and-long (d .t1), short-and-long (d .t2));
         }
 
     pub begins-shown : ShowsHand Holds (counted (decode w)) w (keptAtStart (nT1 w + nT2 w) longs)
     unfolding begins-passing
-    begins-shown = record { shown = a .is; keeps = omega (arith, begins-passing .accounts) }
+    begins-shown = record { shown = held .is; keeps = omega (arith, begins-passing .accounts) }
 
   pub opened : {W : List ℕ} {r : Evicted} → EvictedWithCounts Holds (evict (decode w)) r W
       → Freed W × CountsFit W (r .short) (r .long)
@@ -73,12 +74,12 @@ module _ {w : List ℕ} (f : Full cart w) where
       let d = decode w in
       let d′ = evict d .dir in
       let shown = e .evicted .shown in
-      let counts = cart-counts d (a .shared) own (a .full) in
+      let counts = cart-counts d (held .shared) own (held .full) in
       let h = header d′ W shown in (
-        freed a d′ shown (cart-opens d (a .shared) own (a .full)),
+        freed held d′ shown (cart-opens d (held .shared) own (held .full)),
         omega (
           arith,
-          cart-opened d (a .shared) own (a .full),
+          cart-opened d (held .shared) own (held .full),
           e .short-is,
           e .long-is,
           counts .0,

@@ -3,6 +3,7 @@
 use mathlib.Core.Path.{_≡_, refl, sym, ap, _∙_}
 use mathlib.Core.List.{List, [], _∷_, _++_, append-assoc, append-nil}
 use Prim.Native.Nat.{ℕ, suc, _+_, _-_, _<_}
+use native.Mathlib.Nat.{add-zero}
 use native.Mathlib.Numerals.{add-one}
 use native.Mathlib.Omega.{arith}
 use lib.ListN.{length, take, drop, getD, set, length-append, length-drop}
@@ -10,37 +11,59 @@ use lib.Seq.{length-take-le, take-all, take-suc, take-at, drop-cons, drop-at, dr
 use lib.Seq.{getD-append-add, getD-drop, set-at}
 use borrow.Rule.Slice.PartMut.{midOf, postOf, putMid}
 
--- i words moved two places to the front
+-- The first i words of Y, then those of l.
+pub over : List ℕ → List ℕ → ℕ → List ℕ
+over Y l i = take i Y ++ drop i l
+
+pub over-none : (Y l : List ℕ) → l ≡ over Y l 0
+unfolding over
+over-none Y l = refl
+
+module _ (Y l : List ℕ) (i : ℕ) (y : i < length Y) (h : i < length l) where
+  passed : length (take i Y) ≡ i
+  passed = length-take-le i Y (omega arith)
+
+  behind : (k : ℕ) → getD (over Y l i) (i + k) 0 ≡ getD l (i + k) 0
+  unfolding over
+  behind k =
+      ap (λ (j : ℕ). getD (over Y l i) (j + k) 0) (sym passed)
+      ∙ getD-append-add (take i Y) (drop i l) k 0
+      ∙ getD-drop i l k 0
+
+  pub over-read : getD (over Y l i) i 0 ≡ getD l i 0
+  over-read = rw add-zero at (behind 0)
+
+  pub over-more : set (over Y l i) i (getD Y i 0) ≡ over Y l (i + 1)
+  unfolding over
+  over-more =
+      ap (λ (r : List ℕ). set (take i Y ++ r) i (getD Y i 0)) (drop-cons l i 0 h)
+      ∙ set-at (take i Y) (getD l i 0) (drop (suc i) l) (getD Y i 0) i passed
+      ∙ sym (append-snoc (take i Y) (getD Y i 0) (drop (suc i) l))
+      ∙ ap (λ (r : List ℕ). r ++ drop (suc i) l) (sym (take-suc Y i 0 y))
+      ∙ ap (λ (k : ℕ). over Y l k) (sym (add-one i))
+
+pub over-all : (Y l : List ℕ) → over Y l (length l) ≡ take (length l) Y
+unfolding over
+over-all Y l = ap (λ (r : List ℕ). take (length l) Y ++ r) (drop-length l) ∙ append-nil (take (length l) Y)
+
+-- Of l, i words moved two places to the front.
 pub moved : List ℕ → ℕ → List ℕ
-moved l i = take i (drop 2 l) ++ drop i l
+moved l i = over (drop 2 l) l i
 
 pub moved-none : (l : List ℕ) → l ≡ moved l 0
 unfolding moved
-moved-none l = refl
+moved-none l = over-none (drop 2 l) l
 
-module _ (l : List ℕ) (i : ℕ) (h : i + 2 < length l) where
-  front : length (take i (drop 2 l)) ≡ i
-  front = length-take-le i (drop 2 l) (simp length-drop (omega arith))
+pub moved-more : (l : List ℕ) (i : ℕ) → i + 2 < length l
+    → set (moved l i) i (getD (moved l i) (i + 2) 0) ≡ moved l (i + 1)
+unfolding moved
+moved-more l i h =
+    let y : i < length (drop 2 l) = simp length-drop (omega arith) in
+    let read : getD (moved l i) (i + 2) 0 ≡ getD (drop 2 l) i 0 =
+    behind (drop 2 l) l i y (omega arith) 2 ∙ ap (λ (k : ℕ). getD l k 0) (omega arith) ∙ sym (getD-drop 2 l i 0) in
+    ap (λ (v : ℕ). set (moved l i) i v) read ∙ over-more (drop 2 l) l i y (omega arith)
 
-  read : getD (moved l i) (i + 2) 0 ≡ getD (drop 2 l) i 0
-  unfolding moved
-  read =
-      ap (λ (k : ℕ). getD (moved l i) (k + 2) 0) (sym front)
-      ∙ getD-append-add (take i (drop 2 l)) (drop i l) 2 0
-      ∙ getD-drop i l 2 0
-      ∙ ap (λ (k : ℕ). getD l k 0) (omega arith)
-      ∙ sym (getD-drop 2 l i 0)
-
-  pub moved-more : set (moved l i) i (getD (moved l i) (i + 2) 0) ≡ moved l (i + 1)
-  unfolding moved
-  moved-more =
-      ap (λ (v : ℕ). set (moved l i) i v) read
-      ∙ ap (λ (r : List ℕ). set (take i (drop 2 l) ++ r) i (getD (drop 2 l) i 0)) (drop-cons l i 0 (omega arith))
-      ∙ set-at (take i (drop 2 l)) (getD l i 0) (drop (suc i) l) (getD (drop 2 l) i 0) i front
-      ∙ sym (append-snoc (take i (drop 2 l)) (getD (drop 2 l) i 0) (drop (suc i) l))
-      ∙ ap (λ (r : List ℕ). r ++ drop (suc i) l) (sym (take-suc (drop 2 l) i 0 (simp length-drop (omega arith))))
-      ∙ ap (λ (k : ℕ). moved l k) (sym (add-one i))
-
+-- The last two words stored.
 two : (r : List ℕ) → length r ≡ 2 → (f : List ℕ) (m a b : ℕ) → length f ≡ m
     → set (set (f ++ r) m a) (m + 1) b ≡ f ++ (a ∷ b ∷ [])
 two [] e f m a b h = absurd (omega arith)
@@ -53,7 +76,7 @@ two (u ∷ v ∷ []) e f m a b h =
 
 pub moved-last : (l : List ℕ) (m : ℕ) → m + 2 ≡ length l
     → set (set (moved l m) m (getD l 0 0)) (m + 1) (getD l 1 0) ≡ drop 2 l ++ take 2 l
-unfolding moved
+unfolding moved over
 moved-last [] m e = absurd (omega arith)
 moved-last (x ∷ []) m e = absurd (omega arith)
 moved-last (x ∷ y ∷ l) m e =
@@ -65,7 +88,7 @@ short [] h = refl
 short (x ∷ []) h = refl
 short (x ∷ y ∷ l) h = absurd (omega arith)
 
--- the entry at word a made the last before word e
+-- The entry at word a made the last before word e.
 module _ (P M R : List ℕ) (h f v a e : ℕ) (p : length P ≡ a) (q : a + 2 + length M ≡ e) where
   stored : set (P ++ (h ∷ f ∷ (M ++ R))) (a + 1) v ≡ P ++ (h ∷ v ∷ (M ++ R))
   stored =
@@ -95,40 +118,7 @@ module _ (P M R : List ℕ) (h f v a e : ℕ) (p : length P ≡ a) (q : a + 2 + 
       ∙ ap (λ (z : List ℕ). putMid a (e - a) z (M ++ (h ∷ v ∷ []))) s
       ∙ put
 
--- the first i words of Y, then those of l
-pub over : List ℕ → List ℕ → ℕ → List ℕ
-over Y l i = take i Y ++ drop i l
-
-pub over-none : (Y l : List ℕ) → l ≡ over Y l 0
-unfolding over
-over-none Y l = refl
-
-module _ (Y l : List ℕ) (i : ℕ) (y : i < length Y) (h : i < length l) where
-  passed : length (take i Y) ≡ i
-  passed = length-take-le i Y (omega arith)
-
-  pub over-read : getD (over Y l i) i 0 ≡ getD l i 0
-  unfolding over
-  over-read =
-      ap (λ (k : ℕ). getD (over Y l i) k 0) (sym (omega (arith, passed)))
-      ∙ getD-append-add (take i Y) (drop i l) 0 0
-      ∙ getD-drop i l 0 0
-      ∙ ap (λ (k : ℕ). getD l k 0) (omega arith)
-
-  pub over-more : set (over Y l i) i (getD Y i 0) ≡ over Y l (i + 1)
-  unfolding over
-  over-more =
-      ap (λ (r : List ℕ). set (take i Y ++ r) i (getD Y i 0)) (drop-cons l i 0 h)
-      ∙ set-at (take i Y) (getD l i 0) (drop (suc i) l) (getD Y i 0) i passed
-      ∙ sym (append-snoc (take i Y) (getD Y i 0) (drop (suc i) l))
-      ∙ ap (λ (r : List ℕ). r ++ drop (suc i) l) (sym (take-suc Y i 0 y))
-      ∙ ap (λ (k : ℕ). over Y l k) (sym (add-one i))
-
-pub over-all : (Y l : List ℕ) → over Y l (length l) ≡ take (length l) Y
-unfolding over
-over-all Y l = ap (λ (r : List ℕ). take (length l) Y ++ r) (drop-length l) ∙ append-nil (take (length l) Y)
-
--- a word put in at word a, and the last before word e out
+-- A word put in at word a, and the last before word e out.
 module _ (P M R : List ℕ) (h v a e : ℕ) (p : length P ≡ a) (q : a + length M + 1 ≡ e) where
   pub pushed : (X L : List ℕ) → X ≡ P ++ (M ++ (h ∷ R)) → L ≡ take (length (midOf a (e - a) X)) (v ∷ midOf a (e - a) X)
       → putMid a (e - a) X L ≡ P ++ (v ∷ (M ++ R))

@@ -1,12 +1,5 @@
--- What the walks by hand of `note` and `counted` share. Both take a tally, lent or by value, and an answer.
---     tally-typed, answer-typed   the machine value of a tally or an answer is of its cells' type
---     with-answer                 an answer owns facts alone: it is had for nothing, as the last of the parameters
---     peeks-tally, spelt-tally    what a tally owns tells its machine value, in a local and under an opened borrow
--- A function of a tally in the slot p and an answer has its signature by p and the slot R of its result:
---     ended, stayed               the signature, and what the walk still has of the parameters where it ends
---     Called, AfterWalk           a call's lifetimes, shares and parameters, and what stands where the walk ends
---     by-walk                     the function meets its contract c, from a walk at each tally and answer
--- The definitions assume nothing, and the laws `Given`.
+-- What the walks by hand of `note` and `counted` share: both take a tally, lent or by value, and an answer.
+-- First the steps that a walk makes, then what a function of the two has to show.
 use mathlib.Core.Path.{refl}
 use mathlib.Core.List.{List, [], _∷_}
 use Prim.Native.Nat.{ℕ}
@@ -41,6 +34,7 @@ use Rattle.tally.proofs.Tally as T
 use Rattle.tally.proofs.Tally.Laws as T′
 
 module _ {M : Type 1} (𝓤 : URA M) (H : Heap 𝓤) (A : Atoms 𝓤) (W : Given 𝓤 H A) where
+  -- The machine value of a tally or an answer is of the type of the cells that it is put in.
   pub tally-typed : (h : Tally) (v : Val) → Is T.the-row h (v ∷ []) → Typed (T.the-row .mir) (v ∷ [])
   tally-typed h v = LL.lawful T.the-type T′.the-laws 𝓤 H A W .typed h (v ∷ [])
 
@@ -57,12 +51,15 @@ module _
     {Γ : List (Item 𝓤)}
     {G : Goal 𝓤 H}
   where
+    -- An answer owns facts alone, so that it is had for nothing, as the last of the parameters.
     pub with-answer : K → (s : Served) → Is S.the-row s (S′.lowered s ∷ [])
         → Step K W (‵ (owns (S.the-row ∷ []) (s, tt) (S′.lowered s ∷ [], tt)) ∷ Γ) G Γ G
     with-answer t s is =
         step (λ k.
         nothing t $ owned t S.the-row (Is S.the-row) (LL.makes S.the-type S′.the-plain 𝓤 H A) s _ is $ fjoin t $ k)
 
+    -- What a tally owns tells that its machine value is its own, and stays; under an opened borrow the value is
+    -- written out.
     pub peeks-tally : K → (h : Tally) (v : Val)
         → (Is T.the-row h (v ∷ []) → Seq K W (‵ (T.the-row .own h (v ∷ [])) ∷ Γ) G)
         → Seq K W (‵ (T.the-row .own h (v ∷ [])) ∷ Γ) G
@@ -78,6 +75,8 @@ module _
         spelt t T.the-row (Is T.the-row) (shows 𝓤 H A T.the-row) (LL.vals T.the-type T′.the-laws)
         (LL.tells T.the-type T′.the-laws) fullShare
 
+-- A function of a tally in the slot p and an answer, with its result in the slot R: its signature, and what its walk
+-- still has of the parameters where it ends.
 module _ {n : ℕ} (p R : Slot n) where
   abbrev pub ended : Ended
   ended = record {
@@ -94,14 +93,16 @@ module _ {n : ℕ} (p R : Slot n) where
   stayed stay = (stay, (stay-none (λ _. S.the-row) yes, tt))
 
 module _ {M : Type 1} (𝓤 : URA M) (H : Heap 𝓤) (A : Atoms 𝓤) {n : ℕ} (p R : Slot n) where
-  -- the parameters a, whose machine value is v, and s
+  -- A call with the tally a, whose machine value is v, and the answer s.
   abbrev pub Called : (κs : Lfts n) → Shares n → p .row κs .Denot → Val → Served → Bound 𝓤 H A (ended p R .signature)
   Called κs qs a v s = (κs, qs, tt, (a, (s, tt)), (v ∷ [], (S′.lowered s ∷ [], tt)))
 
   module _ (stay : Stay p yes) (c : Clauses 𝓤 (ended p R)) where
+    -- What stands where the walk of such a call ends.
     abbrev pub AfterWalk : (x : Bound 𝓤 H A (ended p R .signature)) → c (x .0) (x .3) .ghost → Val → SProp 𝓤
     AfterWalk x g = walkOf 𝓤 H A (ended p R) (stayed p R stay) c .post (x, g)
 
+    -- The function meets its contract c, from a walk at each tally and answer.
     pub by-walk : (W : Given 𝓤 H A) (𝓣 : Tables 𝓤 H) (f : Fn)
         → Goes 𝓤 H A W n p yes stay
         → (val : (κs : Lfts n) → p .row κs .Denot → Val)

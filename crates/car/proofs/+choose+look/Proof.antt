@@ -16,7 +16,7 @@ use Rattle.entries.proofs.lists.move_head.Reads as move-head-reads
 use Rattle.entries.proofs.lists.start_of.Reads as start-of-reads
 use Rattle.entries.proofs.targets.t1_at_target.Reads as t1-at-target-reads
 use Rattle.entries.proofs.Heads.{head-inside}
-use Rattle.car.proofs.Heads.{room, some-length, first-chosen, second-chosen}
+use Rattle.car.proofs.Heads.{room, some-length, chosen-by}
 use Rattle.car.proofs.Looks.{Again, look-again, look-stops}
 use Rattle.car.proofs.choose.Reads as choose
 use Rattle.car.proofs.choose.Kinds as choose-kinds
@@ -75,14 +75,14 @@ module _ (t : ℕ) where
   choose-look-requires c κs =
       let tested = c .before .before in
       let start = tested .before .before .before in
-      let is-chosen = first-chosen _ (tested .t1-at-target .ensures) (c .before .if1 .taken) in
+      let is-chosen = chosen-by (tested .t1-at-target .ensures) (c .before .if1 .taken) in
       (omega (arith, start .pre .0), (start .pre .1 .0, (start .pre .1 .1, (omega arith, is-chosen))))
 
   choose-look-requires-2 : choose-lts.Need-look-requires-2 (choose-calls t) (choose-at t) choose.Post
   choose-look-requires-2 c κs =
       let tested = c .before .before in
       let start = tested .before .before .before in
-      let is-chosen = second-chosen _ (tested .t1-at-target .ensures) (c .before .if1 .left) in
+      let is-chosen = chosen-by (tested .t1-at-target .ensures) (c .before .if1 .left) in
       (omega (arith, start .pre .0), (start .pre .1 .0, (start .pre .1 .1, (omega arith, is-chosen))))
 
 -- LOOK

@@ -1,4 +1,4 @@
--- `tally::noted` meets its contract: each number that an `if` chose is the one that `notedOf` chooses by the same test.
+-- Each number that an `if` chose is the one that `notedOf` chooses by the same test.
 use mathlib.Core.Logic.{⊎-elim}
 use native.Mathlib.Omega.{arith}
 use borrow.Author.Needs.{needs}
