@@ -92,7 +92,8 @@ fn trim(dir: &mut [u32])
 fn place(dir: &mut [u32], page: u32) -> u32
     requires { ⌜ Freed (now dir) ⌝ }
     requires { ⌜ nT1 (now dir) + nB1 (now dir) ≤ size (now dir) ⌝ }
-    ensures { λ r. ⌜ ((h : Hand) → Holds (h .dir) (now (dir .entry)) → PlacedAs Holds carPolicy page h r (now (dir .exit))) ⌝ }
+    ensures { λ r. ⌜ ((h : Hand) → Holds (h .dir) (now (dir .entry))
+        → PlacedAs Holds carPolicy page h r (now (dir .exit))) ⌝ }
 {
     let to = returning::Return {
         b1: dir[header::B2_LENGTH],

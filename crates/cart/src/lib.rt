@@ -92,7 +92,8 @@ fn first_pass(dir: &mut [u32], kept: counts::Kept) -> counts::Kept
 
 // Line 30's test, of T1's head, whose flags are f: it is S and T1 is long enough.
 fn becomes_long(dir: &[u32], f: u32) -> bool
-    requires { ⌜ (8 ≤ length (now dir)) × (getD (now dir) 2 0 ≤ unit * 1024) × (nT1 (now dir) ≤ 2048) × (nB1 (now dir) ≤ 2048) ⌝ }
+    requires { ⌜ (8 ≤ length (now dir)) × (getD (now dir) 2 0 ≤ unit * 1024)
+        × (nT1 (now dir) ≤ 2048) × (nB1 (now dir) ≤ 2048) ⌝ }
     ensures { λ r. ⌜ ((d : Directory) (e : Entry) → Holds d (now (dir .entry)) → f ≡ flags e → r ≡ lengthens e d) ⌝ }
 {
     if flags::long(f) {
@@ -146,7 +147,8 @@ fn goes_on(f: u32) -> bool
 fn second_pass(dir: &mut [u32], kept: counts::Kept) -> counts::Kept
     requires { ⌜ Room (now dir) ⌝ }
     requires { ⌜ Passing Holds (now dir) kept ⌝ }
-    ensures { λ r. ⌜ Passed Holds Cart.secondLook (now (dir .entry)) kept (now (dir .exit)) r × SecondTest false (now (dir .exit)) ⌝ }
+    ensures { λ r. ⌜ Passed Holds Cart.secondLook (now (dir .entry)) kept (now (dir .exit)) r
+        × SecondTest false (now (dir .exit)) ⌝ }
 {
     let mut now = kept;
     let mut f = head_flags(dir, lists::T1);
@@ -281,7 +283,8 @@ fn place(dir: &mut [u32], page: u32, short: counts::ShortCount, long: counts::Lo
 // A miss in a full cache.
 pub fn miss(dir: &mut [u32], page: u32) -> engine::Served
     requires { ⌜ Full cart (now dir) ⌝ }
-    ensures { λ r. ⌜ Tells Holds (missed cartPolicy page (Cart.evict (decode (now (dir .entry))))) r (now (dir .exit)) ⌝ }
+    ensures { λ r. ⌜ Tells Holds (missed cartPolicy page (Cart.evict (decode (now (dir .entry)))))
+        r (now (dir .exit)) ⌝ }
 {
     let e = evict(dir);
     let kind = place(dir, page, e.short, e.long);

@@ -1,5 +1,5 @@
-// Document 01's cases through the code: P1 to P12, the limits, each soundness rule broken by itself, and the pages 0 and
-// 4,294,967,295. It prints what each call gave, and the gate compares that with the file stdout.
+// Document 01's cases through the code: P1 to P12, the limits, each soundness rule broken by itself, and the pages 0
+// and 4,294,967,295. It prints what each call gave, and the gate compares that with the file stdout.
 
 fn space_and(n: u32) {
     io::write_all(1, b" ");

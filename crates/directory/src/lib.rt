@@ -1,5 +1,5 @@
-// The public operations on a directory in lent words. Each is total: whatever is lent gets an answer, a refusal its number,
-// and a refused call changes no lent word. What each promises is in specs/Promises.
+// The public operations on a directory in lent words. Each is total: whatever is lent gets an answer, a refusal its
+// number, and a refused call changes no lent word. What each promises is in specs/Promises.
 ghost use mathlib.Core.Path.{_≡_};
 ghost use Prim.Native.Nat.{_+_, _*_, _≤_};
 ghost use mathlib.Core.List.{_∷_, _++_};
@@ -109,7 +109,8 @@ fn miss(dir: &mut [u32], page: u32) -> engine::Served
 // One request of a sound directory, which it leaves sound: the step under requests and runs.
 fn serve(dir: &mut [u32], page: u32) -> engine::Served
     requires { ⌜ Ready (now dir) ⌝ }
-    ensures { λ r. ⌜ Tells Holds (request page (decode (now (dir .entry)))) r (now (dir .exit)) × Ready (now (dir .exit)) ⌝ }
+    ensures { λ r. ⌜ Tells Holds (request page (decode (now (dir .entry)))) r (now (dir .exit))
+        × Ready (now (dir .exit)) ⌝ }
 {
     let n1 = lists::wide(dir[header::T1_LENGTH]);
     let n2 = lists::wide(dir[header::T2_LENGTH]);
@@ -158,7 +159,8 @@ pub struct Ran {
 // An answer's four words, written from word at on.
 fn put_answer(answers: &mut [u32], at: usize, served: engine::Served)
     requires { ⌜ at + 4 ≤ length (now answers) ⌝ }
-    ensures { λ _. ⌜ now (answers .exit) ≡ take at (now (answers .entry)) ++ (served .kind ∷ served .page ∷ served .list ∷ served .moves ∷ drop (at + 4) (now (answers .entry))) ⌝ }
+    ensures { λ _. ⌜ now (answers .exit) ≡ take at (now (answers .entry))
+        ++ (served .kind ∷ served .page ∷ served .list ∷ served .moves ∷ drop (at + 4) (now (answers .entry))) ⌝ }
 {
     answers[at] = served.kind;
     answers[at + 1] = served.page;
@@ -170,7 +172,8 @@ fn put_answer(answers: &mut [u32], at: usize, served: engine::Served)
 fn step(dir: &mut [u32], page: u32, answers: &mut [u32], at: usize, t: tally::Tally) -> tally::Tally
     requires { ⌜ Ready (now dir) ⌝ }
     requires { ⌜ (at + 4 ≤ length (now answers)) × Small t ⌝ }
-    ensures { λ r. ⌜ Stepped page (now (dir .entry)) (now (answers .entry)) at t r (now (dir .exit)) (now (answers .exit)) ⌝ }
+    ensures { λ r. ⌜ Stepped page (now (dir .entry)) (now (answers .entry)) at t
+        r (now (dir .exit)) (now (answers .exit)) ⌝ }
 {
     let served = serve(dir, page);
     put_answer(answers, at, served);
@@ -193,7 +196,8 @@ fn no_tally() -> tally::Tally
 fn replay(dir: &mut [u32], trace: &[u32], answers: &mut [u32]) -> tally::Tally
     requires { ⌜ Ready (now dir) ⌝ }
     requires { ⌜ (length (now trace) ≤ 1000) × (4 * length (now trace) ≤ length (now answers)) ⌝ }
-    ensures { λ r. ⌜ RunThrough (now (dir .entry)) (now (trace .entry)) (now (answers .entry)) r (now (dir .exit)) (now (answers .exit)) ⌝ }
+    ensures { λ r. ⌜ RunThrough (now (dir .entry)) (now (trace .entry)) (now (answers .entry))
+        r (now (dir .exit)) (now (answers .exit)) ⌝ }
 {
     let mut t = no_tally();
     let mut i = 0;
@@ -206,7 +210,8 @@ fn replay(dir: &mut [u32], trace: &[u32], answers: &mut [u32]) -> tally::Tally
 
 // A run: refusals as a request, then 5, 6.
 pub fn run(dir: &mut [u32], trace: &[u32], answers: &mut [u32]) -> Ran
-    ensures { λ r. ⌜ Replayed (now (dir .entry)) (now (trace .entry)) (now (answers .entry)) r (now (dir .exit)) (now (answers .exit)) ⌝ }
+    ensures { λ r. ⌜ Replayed (now (dir .entry)) (now (trace .entry)) (now (answers .entry))
+        r (now (dir .exit)) (now (answers .exit)) ⌝ }
 {
     let number = check(dir);
     if number != refusals::ACCEPTED {

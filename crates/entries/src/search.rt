@@ -1,5 +1,5 @@
-// What the words of a list hold: where a page stands, how many entries have a flag, whether flags and pages are in order.
-// Nothing is written.
+// What the words of a list hold: where a page stands, how many entries have a flag, whether flags and pages are in
+// order. Nothing is written.
 ghost use mathlib.Core.Path.{_≡_};
 ghost use Prim.Native.Nat.{_+_, _*_, _≤_};
 ghost use lib.ListN.{length, take, drop};

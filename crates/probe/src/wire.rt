@@ -1,5 +1,5 @@
-// Words on standard input and output: four bytes each, the lowest first. A buffer is its length, then its elements, a word
-// to each. What the input does not hold whole, or what does not fit where it is to go, is unreadable.
+// Words on standard input and output: four bytes each, the lowest first. A buffer is its length, then its elements, a
+// word to each. What the input does not hold whole, or what does not fit where it is to go, is unreadable.
 // An answer is put together in the raw buffer and sent by one write.
 ghost use mathlib.Core.Path.{_≡_};
 ghost use Prim.Native.Nat.{_+_, _*_, _≤_};
@@ -171,7 +171,8 @@ pub fn read_numbers(numbers: &mut [u32], raw: &mut [u8]) -> bool {
     true
 }
 
-// A byte at a place of the answer, and the place after it. (Nothing is put past the raw buffer's end: no answer is so long.)
+// A byte at a place of the answer, and the place after it. (Nothing is put past the raw buffer's end: no answer is so
+// long.)
 fn put_byte(raw: &mut [u8], at: usize, byte: u8) -> usize {
     if at < raw.len() {
         raw[at] = byte;

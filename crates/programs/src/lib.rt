@@ -1,5 +1,5 @@
-// The programs score and ledger: a bid sheet from standard input; its result sheet or two lines of a refusal, and for the
-// ledger a line for each request, to standard output. What they print is scoring's, which is proved.
+// The programs score and ledger: a bid sheet from standard input; its result sheet or two lines of a refusal, and for
+// the ledger a line for each request, to standard output. What they print is scoring's, which is proved.
 ghost use Prim.Native.Nat.{_≤_};
 ghost use lib.ListN.{length};
 

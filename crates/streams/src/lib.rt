@@ -6,7 +6,8 @@ ghost use lib.ListN.{length};
 ghost use Rattle.libc.specs.Io.{Moved};
 ghost use Rattle.streams.specs.Reads.{ReadTells, ReadAt, Handed};
 
-// What came of a file, as standard input: so many bytes, fewer than were asked for only where the input ended; or a read failed.
+// What came of a file, as standard input: so many bytes, fewer than were asked for only where the input ended; or a
+// read failed.
 pub enum Input {
     Came(usize),
     Failed,
