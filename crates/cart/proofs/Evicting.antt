@@ -16,7 +16,7 @@ use Rattle.laws.proofs.Facts.{CartFacts}
 use Rattle.laws.proofs.Soundness.{cart-iff}
 use Rattle.laws.proofs.Cart.{cost-at-most-two, cart-stops, cart-opens, cart-opened, cart-counts}
 use Rattle.engine.specs.declared.counts.Kept.{Kept}
-use Rattle.engine.specs.declared.counts.Evicted.{Evicted}
+use Rattle.engine.specs.declared.counts.AfterEvict.{AfterEvict}
 use Rattle.engine.specs.Passes.{Passing, ShowsHand, EvictedWithCounts}
 use Rattle.entries.specs.Holds.{Holds}
 use Rattle.entries.specs.Flags.{ofFlag}
@@ -68,7 +68,7 @@ module _ {w : List ℕ} (f : Full cart w) where
     unfolding begins-passing
     begins-shown = record { shown = held .is; keeps = omega (arith, begins-passing .accounts) }
 
-  pub opened : {W : List ℕ} {r : Evicted} → EvictedWithCounts Holds (evict (decode w)) r W
+  pub opened : {W : List ℕ} {r : AfterEvict} → EvictedWithCounts Holds (evict (decode w)) r W
       → Freed W × CountsFit W (r .short) (r .long)
   opened {W} e =
       let d = decode w in

@@ -173,7 +173,7 @@ fn demote_head(dir: &mut [u32], i: usize) -> u32
 }
 
 // Lines 36 to 40, the demotion.
-fn demote(dir: &mut [u32], kept: counts::Kept) -> counts::Evicted
+fn demote(dir: &mut [u32], kept: counts::Kept) -> counts::AfterEvict
     requires { ⌜ Room (now dir) ⌝ }
     requires { ⌜ Passing Holds (now dir) kept ⌝ }
     requires { ⌜ SecondTest false (now dir) ⌝ }
@@ -192,7 +192,7 @@ fn demote(dir: &mut [u32], kept: counts::Kept) -> counts::Evicted
             list: 1,
             hand,
         };
-        counts::Evicted {
+        counts::AfterEvict {
             out,
             short: counts::ShortCount(short.0 - 1),
             long,
@@ -204,7 +204,7 @@ fn demote(dir: &mut [u32], kept: counts::Kept) -> counts::Evicted
             list: 2,
             hand,
         };
-        counts::Evicted {
+        counts::AfterEvict {
             out,
             short,
             long: counts::LongCount(long.0 - 1),
@@ -213,7 +213,7 @@ fn demote(dir: &mut [u32], kept: counts::Kept) -> counts::Evicted
 }
 
 // Lines 23 to 40.
-pub fn evict(dir: &mut [u32]) -> counts::Evicted
+pub fn evict(dir: &mut [u32]) -> counts::AfterEvict
     requires { ⌜ Full cart (now dir) ⌝ }
     ensures { λ r. ⌜ EvictedWithCounts Holds (Cart.evict (decode (now (dir .entry)))) r (now (dir .exit)) ⌝ }
 {

@@ -14,7 +14,7 @@ use Rattle.figures.specs.Sound.{Bounds}
 use Rattle.engine.specs.declared.counts.ShortCount.{ShortCount}
 use Rattle.engine.specs.declared.counts.LongCount.{LongCount}
 use Rattle.engine.specs.declared.counts.Kept.{Kept}
-use Rattle.engine.specs.declared.counts.Evicted.{Evicted}
+use Rattle.engine.specs.declared.counts.AfterEvict.{AfterEvict}
 use Rattle.engine.specs.Shown.{Counts, EndsWhere, EvictedAs, PlacedAs}
 
 -- The history that trim takes from: B1 where |B1| > q or B2 is empty, else B2.
@@ -77,13 +77,13 @@ module _ {W : Type 0} (Shows : Directory → W → Type 0) where
     pub ends : PassEnds look w k w′ k′
 
   -- The evicted page, its list and what is counted are those of hand z, and the memory shows its directory.
-  pub record EvictedWithCounts (z : Hand) (r : Evicted) (w : W) : Type 0 where
+  pub record EvictedWithCounts (z : Hand) (r : AfterEvict) (w : W) : Type 0 where
     pub evicted : EvictedAs Shows z (r .out) w
     pub short-is : r .short .0 ≡ z .nS
     pub long-is : r .long .0 ≡ z .nL
 
   -- The demotion of any hand that is shown.
-  abbrev pub Demotes : W → Kept → W → Evicted → Type 0
+  abbrev pub Demotes : W → Kept → W → AfterEvict → Type 0
   Demotes w k w′ r = (h : Hand) → ShowsHand h w k → EvictedWithCounts (demotion h) r w′
 
   -- A page placed, whichever hand with these counts is shown.

@@ -14,7 +14,7 @@ pub struct Kept {
 }
 
 // What the evict part leaves: the evicted page, and n_S and n_L then.
-pub struct Evicted {
+pub struct AfterEvict {
     pub out: crate::Evicted,
     pub short: ShortCount,
     pub long: LongCount,
