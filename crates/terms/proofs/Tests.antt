@@ -1,11 +1,11 @@
 -- Tests read as facts: `simp reads` turns a list of tests that all hold into a product of facts, and back.
--- A test by `||` is not read; split it by cases.
-use mathlib.Core.Path.{_≡_, refl, sym}
-use mathlib.Core.Bool.{Bool, true, false, false≢true, and-eq-true-iff}
+-- A test by `||` is not read; split it by cases. At the end, a test that a function answered.
+use mathlib.Core.Path.{_≡_, refl, sym, _∙_}
+use mathlib.Core.Bool.{Bool, true, false, not, false≢true, and-eq-true-iff}
 use mathlib.Core.Logic.{_↔_}
 use Prim.Native.Nat.{ℕ, _≤_, _<_}
 use lib.Dec.{eqb, leb, ltb}
-use borrow.Author.Tests.{ltb-true, lt-ltb, leb-true, le-leb, eqb-true, eq-eqb}
+use borrow.Author.Tests.{ltb-true, lt-ltb, leb-true, le-leb, eqb-true, eq-eqb, not-true, not-false}
 use Rattle.terms.specs.Choice.{if_then_else_}
 
 pub leb-iff : (a b : ℕ) → (leb a b ≡ true) ↔ (a ≤ b)
@@ -30,3 +30,11 @@ unless-iff true b = (λ h. absurd (false≢true h), λ h. sym (h .0))
 unless-iff false b = (λ h. (refl, h), λ h. h .1)
 
 pub ruleset reads = (both-iff, when-iff, unless-iff, and-eq-true-iff, leb-iff, ltb-iff, eqb-iff)
+
+-- What `if !answer` tells of the test that was answered.
+module _ {answer test : Bool} (said : answer ≡ test) where
+  pub test-holds : not answer ≡ false → test ≡ true
+  test-holds left = sym said ∙ not-false answer left
+
+  pub test-fails : not answer ≡ true → test ≡ false
+  test-fails taken = sym said ∙ not-true answer taken

@@ -4,9 +4,9 @@ use Prim.Native.Nat.{_≤_, _-_}
 use native.Mathlib.Omega.{arith}
 use lib.ListN.{length, drop, drop-of-length-le}
 use borrow.Author.Needs.{needs}
+use Rattle.terms.proofs.Tests.{test-holds, test-fails}
 use Rattle.sheets.specs.Number.{allDigits}
 use Rattle.sheets.proofs.Digits.{digit-here, no-digit-here}
-use Rattle.numbers.proofs.Asked.{holds, fails}
 use Rattle.numbers.proofs.all_digits.Statement.{statement}
 use Rattle.numbers.proofs.all_digits.Tie as tie
 
@@ -30,14 +30,14 @@ returns : tie.Need-returns Inv-loop μ-loop
 returns c =
     let v = at-loop (c .before) .loop in
     let s = at-start (at-loop (c .before)) .args .text .now in
-    let isnt = fails (c .before .is-digit .ensures) (c .if1 .taken) in
+    let isnt = test-fails (c .before .is-digit .ensures) (c .if1 .taken) in
     sym (v .inv .1 ∙ no-digit-here s (v .i) (omega arith) isnt)
 
 loop-again : tie.Need-loop-again Inv-loop μ-loop
 loop-again c =
     let v = at-loop (c .before) .loop in
     let s = at-start (at-loop (c .before)) .args .text .now in
-    let is = holds (c .before .is-digit .ensures) (c .if1 .left) in
+    let is = test-holds (c .before .is-digit .ensures) (c .if1 .left) in
     (omega arith, v .inv .1 ∙ digit-here s (v .i) (omega arith) is)
 
 returns-2 : tie.Need-returns-2 Inv-loop μ-loop

@@ -1,7 +1,8 @@
 -- Four digits are worth less than 10,000 and three less than 1,000, so the sum is below 10,000,000.
+use Prim.Native.Nat.{_+_, _*_, _^_, _<_}
 use native.Mathlib.Omega.{arith}
-use Rattle.sheets.proofs.Digits.{value-below, thousandths-below}
 use borrow.Author.Needs.{needs}
+use Rattle.sheets.proofs.Digits.{value-below, thousandths-below}
 use Rattle.numbers.proofs.thousandths.Statement.{statement}
 use Rattle.numbers.proofs.thousandths.Tie as tie
 
@@ -11,22 +12,23 @@ at-start c = c .before .before .before
 
 mul-result : tie.Need-mul-result
 mul-result c =
-    let x = at-start c in
-    omega (arith, c .value .ensures, value-below 4 (x .args .before .now) (x .pre .0 .1) (x .pre .0 .0))
+    let s = at-start c in
+    let four = s .pre .0 in
+    omega (arith, c .value .ensures, value-below 4 (s .args .before .now) (four .1) (four .0))
 
-add-result : tie.Need-add-result
-add-result c =
-    let x = at-start (c .before) in
-    let below = thousandths-below (x .args .before .now) (x .args .after .now) (x .pre .0) (x .pre .1) in
-    omega (arith, c .before .value .ensures, c .value2 .ensures, below)
-
-cast-result : tie.Need-cast-result
-cast-result c =
-    let x = at-start (c .before) in
-    let below = thousandths-below (x .args .before .now) (x .args .after .now) (x .pre .0) (x .pre .1) in
+sum-below : (c : tie.After-value2) → 1000 * c .before .value .result + c .value2 .result < 10 ^ 7
+sum-below c =
+    let s = at-start (c .before) in
+    let below = thousandths-below (s .args .before .now) (s .args .after .now) (s .pre .0) (s .pre .1) in
     omega (arith, c .before .value .ensures, c .value2 .ensures, below)
 
 pub thousandths-spec : {M : Type 1} → statement M
 thousandths-spec =
     tie.close
-    (tie.spec (λ c κs. search needs) mul-result (λ c κs. search needs) add-result cast-result (λ c. search needs))
+    (tie.spec
+    (λ c κs. search needs)
+    mul-result
+    (λ c κs. search needs)
+    (λ c. omega (arith, sum-below c))
+    (λ c. omega (arith, sum-below c))
+    (λ c. search needs))

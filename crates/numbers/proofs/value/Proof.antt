@@ -1,7 +1,8 @@
 -- What was read before i and the digits from i on come to the value of the whole.
 use mathlib.Core.Path.{_≡_, refl, sym, ap, _∙_}
 use mathlib.Core.Bool.{true}
-use Prim.Native.Nat.{_+_, _≤_, _-_, _*_}
+use mathlib.Core.List.{List}
+use Prim.Native.Nat.{ℕ, _+_, _≤_, _<_, _-_, _*_, _^_}
 use native.Mathlib.Omega.{arith}
 use lib.ListN.{length, getD, drop, drop-of-length-le}
 use borrow.Author.Needs.{needs}
@@ -18,12 +19,21 @@ Inv-loop text n₀ i₀ n i =
 abbrev μ-loop : tie.MeasureT-loop
 μ-loop text n₀ i₀ n i = length text - i
 
--- The places that are looked back to.
-abbrev at-loop : tie.After-shared-slice-known Inv-loop μ-loop → tie.At-loop Inv-loop μ-loop
-at-loop c = c .before .before
+abbrev text : tie.In-loop Inv-loop μ-loop → List ℕ
+text c = c .before .before .args .text .now
 
-abbrev at-start : tie.After-shared-slice-known Inv-loop μ-loop → tie.Start Inv-loop μ-loop
-at-start c = at-loop c .before
+-- Ten digits are worth less than 10,000,000,000, and the byte at i is one.
+below : (c : tie.In-loop Inv-loop μ-loop) → Number·value (text c) < 10 ^ 10
+below c = let p = c .before .before .pre in value-below 10 (text c) (p .1) (p .0)
+
+digit : (c : tie.In-loop Inv-loop μ-loop) → let i = c .before .loop .i in let s = text c in
+    (48 ≤ getD s i 0) × (getD s i 0 ≤ 57) × (allDigits (drop (i + 1) s) ≡ true)
+digit c = let v = c .before .loop in digit-and-rest (text c) (v .i) (omega arith) (v .inv .1)
+
+-- With it the value is still to come to.
+with-digit : (c : tie.In-loop Inv-loop μ-loop) → let v = c .before .loop in let s = text c in
+    valueAfter (10 * v .n + (getD s (v .i) 0 - 48)) (drop (v .i + 1) s) ≡ Number·value s
+with-digit c = let v = c .before .loop in sym (value-from (text c) (v .i) (omega arith) (v .n)) ∙ v .inv .2
 
 loop-holds : tie.Need-loop-holds Inv-loop μ-loop
 loop-holds c = (omega arith, c .pre .0, refl)
@@ -31,39 +41,18 @@ loop-holds c = (omega arith, c .pre .0, refl)
 mul-n : tie.Need-mul-n Inv-loop μ-loop
 mul-n c =
     let v = c .before .loop in
-    let s = c .before .before .args .text .now in
-    let below = value-below 10 s (c .before .before .pre .1) (c .before .before .pre .0) in
-    omega (arith, v .inv .2, value-grows (v .n) (drop (v .i) s))
-
-sub-n : tie.Need-sub-n Inv-loop μ-loop
-sub-n c =
-    let v = at-loop c .loop in
-    let s = at-start c .args .text .now in
-    let digit = digit-and-rest s (v .i) (omega arith) (v .inv .1) in
-    digit .0
-
-cast-n : tie.Need-cast-n Inv-loop μ-loop
-cast-n c =
-    let v = at-loop c .loop in
-    let s = at-start c .args .text .now in
-    let digit = digit-and-rest s (v .i) (omega arith) (v .inv .1) in
-    omega (arith, digit .1)
+    omega (arith, below c, v .inv .2, value-grows (v .n) (drop (v .i) (text c)))
 
 add-n : tie.Need-add-n Inv-loop μ-loop
 add-n c =
-    let v = at-loop c .loop in
-    let s = at-start c .args .text .now in
-    let digit = digit-and-rest s (v .i) (omega arith) (v .inv .1) in
+    let turn = c .before in
+    let v = turn .before .loop in
+    let s = text turn in
     let grows = value-grows (10 * v .n + (getD s (v .i) 0 - 48)) (drop (v .i + 1) s) in
-    let below = value-below 10 s (at-start c .pre .1) (at-start c .pre .0) in
-    omega (arith, v .inv .2, value-from s (v .i) (omega arith) (v .n))
+    omega (arith, below turn, with-digit turn)
 
 loop-again : tie.Need-loop-again Inv-loop μ-loop
-loop-again c =
-    let v = at-loop c .loop in
-    let s = at-start c .args .text .now in
-    let digit = digit-and-rest s (v .i) (omega arith) (v .inv .1) in
-    (omega arith, digit .2, sym (value-from s (v .i) (omega arith) (v .n)) ∙ v .inv .2)
+loop-again c = (omega arith, digit (c .before) .2, with-digit (c .before))
 
 returns : tie.Need-returns Inv-loop μ-loop
 returns c =
@@ -80,8 +69,8 @@ value-spec =
     loop-holds
     mul-n
     (λ c. search needs)
-    sub-n
-    cast-n
+    (λ c. digit (c .before) .0)
+    (λ c. omega (arith, digit (c .before) .1))
     add-n
     (λ c. search needs)
     (λ c. search needs)
