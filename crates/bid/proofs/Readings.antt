@@ -1,5 +1,5 @@
 -- A line's answer by its value: good where the value means a number, else the refusal that it is wrong by.
-use mathlib.Core.Path.{_≡_, sym, ap, subst, _∙_}
+use mathlib.Core.Path.{_≡_, sym, ap, _∙_}
 use mathlib.Core.List.{List}
 use Prim.Native.Nat.{ℕ, _+_, _-_}
 use native.Mathlib.Omega.{arith}
@@ -7,36 +7,32 @@ use lib.ListN.{take, drop}
 use Rattle.sheets.specs.Number.{Value, means, wrong}
 use Rattle.sheets.specs.Lines as Lines
 use Rattle.sheets.specs.Lines.{lines, bad, before, under}
-use Rattle.bid.specs.Answers.{valueUnder, Inside, KeyedAt, told, Ahead, ReadsLine}
+use Rattle.bid.specs.Answers.{valueUnder, KeyedAt, told, Ahead, ReadsLine}
 use Rattle.bid.specs.declared.keyed_lines.Keyed.{Keyed}
 use Rattle.bid.specs.declared.keyed_lines.Keyed.the-variants.{Value as ValueAt, NoSuchLine}
 use Rattle.bid.specs.declared.keyed_lines.Reading.{Reading}
 use Rattle.bid.specs.declared.keyed_lines.Reading.the-variants as Reading
 
-module _ {s : List ℕ} {at : ℕ} {key : List ℕ} {r : Keyed} (h : KeyedAt s at key r) where
-  pub value-inside : {start end : ℕ} → r ≡ ValueAt start end → Inside s at (ValueAt start end)
-  value-inside is = subst (Inside s at) is (h .inside)
+pub no-line-read : {s : List ℕ} {at : ℕ} {key : List ℕ} {r : Keyed} → KeyedAt s at key r → (meant : List ℕ → Value)
+    → r ≡ NoSuchLine → ReadsLine s at (under key meant (lines (drop at s))) Reading.NoSuchLine
+no-line-read {s} h meant is = record { tells = sym (h .under-key meant ∙ ap (valueUnder s meant) is); ahead = tt }
 
-  module _ (meant : List ℕ → Value) where
-    abbrev reading : Lines.Reading
-    reading = under key meant (lines (drop at s))
+module _ {s : List ℕ} {at : ℕ} {key : List ℕ} {start end : ℕ} (found : KeyedAt s at key (ValueAt start end))
+    (meant : List ℕ → Value) where
+  abbrev reading : Lines.Reading
+  reading = under key meant (lines (drop at s))
 
-    pub no-line-read : r ≡ NoSuchLine → ReadsLine s at reading Reading.NoSuchLine
-    no-line-read is = record { tells = sym (h .under-key meant ∙ ap (valueUnder s meant) is); ahead = tt }
+  abbrev value : Value
+  value = meant (take (end - start) (drop start s))
 
-    module _ {start end : ℕ} (is : r ≡ ValueAt start end) where
-      abbrev value : List ℕ
-      value = take (end - start) (drop start s)
+  value-decides : (v : Value) → value ≡ v → before v (lines (drop (end + 1) s)) ≡ reading
+  value-decides v so = sym (found .under-key meant ∙ ap (λ w. before w (lines (drop (end + 1) s))) so)
 
-      value-decides : (v : Value) → meant value ≡ v → before v (lines (drop (end + 1) s)) ≡ reading
-      value-decides v so =
-          sym (h .under-key meant ∙ ap (valueUnder s meant) is ∙ ap (λ w. before w (lines (drop (end + 1) s))) so)
+  pub good-read : {n : ℕ} → value ≡ means n → ReadsLine s at reading (Reading.Good n (end + 1))
+  good-read {n} so =
+      let inside = found .inside in
+      record { tells = value-decides (means n) so; ahead = (omega arith, omega arith) }
 
-      pub good-read : {n : ℕ} → meant value ≡ means n → ReadsLine s at reading (Reading.Good n (end + 1))
-      good-read {n} so =
-          let inside = value-inside is in
-          record { tells = value-decides (means n) so; ahead = (omega arith, omega arith) }
-
-      pub wrong-read : {number : ℕ} {r : Reading} → told s r ≡ bad number → Ahead s at r → meant value ≡ wrong number
-          → ReadsLine s at reading r
-      wrong-read {number} says ahead so = record { tells = says ∙ value-decides (wrong number) so; ahead = ahead }
+  pub wrong-read : {number : ℕ} {r : Reading} → told s r ≡ bad number → Ahead s at r → value ≡ wrong number
+      → ReadsLine s at reading r
+  wrong-read {number} says ahead so = record { tells = says ∙ value-decides (wrong number) so; ahead = ahead }

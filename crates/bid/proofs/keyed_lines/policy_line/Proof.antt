@@ -1,15 +1,21 @@
 -- A line under its key, and its value by its three cases.
-use mathlib.Core.Path.{refl, sym, ap, _∙_}
+use mathlib.Core.Path.{_≡_, refl, sym, ap, subst, _∙_}
+use Prim.Native.Nat.{_-_}
+use native.Mathlib.Omega.{arith}
+use lib.ListN.{take, drop}
 use borrow.Author.Needs.{needs}
-use Rattle.sheets.specs.Bid.{policyMeant, policyLine}
-use Rattle.bid.specs.Answers.{policyCase}
-use Rattle.bid.proofs.Readings.{value-inside, no-line-read, good-read, wrong-read}
+use Rattle.text.specs.Text.{bytes}
+use Rattle.sheets.specs.Bid.{policyValue, policyMeant, policyLine}
+use Rattle.bid.specs.Answers.{KeyedAt, policyCase}
+use Rattle.bid.specs.declared.keyed_lines.Keyed.the-variants.{Value}
+use Rattle.bid.specs.declared.keyed_lines.PolicyValue.{PolicyValue}
+use Rattle.bid.proofs.Readings.{no-line-read, good-read, wrong-read}
 use Rattle.bid.proofs.keyed_lines.policy_line.Statement.{statement}
 use Rattle.bid.proofs.keyed_lines.policy_line.Tie as tie
 
 -- The places that are looked back to.
-abbrev after-under-key : tie.After-start → tie.After-under-key
-after-under-key c = c .before .before
+abbrev at-start : tie.After-start → tie.Start
+at-start c = c .before .before .before .before .before
 
 abbrev after-start : tie.After-policy-value → tie.After-start
 after-start c = c .before .before .before
@@ -17,53 +23,37 @@ after-start c = c .before .before .before
 abbrev after-policy-value : tie.After-known-told2 → tie.After-policy-value
 after-policy-value c = c .before .before .before
 
+-- Where the value stands, and which case it is.
+found : (c : tie.After-start) → let a = at-start c .args in let v = c .start .given .0 in
+    KeyedAt (a .sheet .now) (a .at) (bytes "policy=") (Value (v .0) (v .1 .0))
+found c = subst (KeyedAt _ _ _) (c .start .given .1) (c .before .before .under-key .ensures)
+
+is-case : (c : tie.After-policy-value) (v : PolicyValue) → c .policy-value .result ≡ v
+    → let f = after-start c in let s = at-start f .args .sheet .now in let p = f .start .given .0 in
+    policyMeant (policyValue (take (p .1 .0 - p .0) (drop (p .0) s))) ≡ policyMeant (policyCase v)
+is-case c v is = ap policyMeant (sym (c .policy-value .ensures) ∙ ap policyCase is)
+
 returns : tie.Need-returns
 unfolding policyLine
 returns c = no-line-read (c .before .before .under-key .ensures) _ (c .enum-told .given .1)
 
-sub-policy-value : tie.Need-sub-policy-value
-sub-policy-value c =
-    let i = value-inside (after-under-key (c .before) .under-key .ensures) (c .before .start .given .1) in search needs
-
-part-policy-value-start : tie.Need-part-policy-value-start
-part-policy-value-start c =
-    let i = value-inside (after-under-key (c .before) .under-key .ensures) (c .before .start .given .1) in search needs
-
-part-policy-value-end : tie.Need-part-policy-value-end
-part-policy-value-end c =
-    let i = value-inside (after-under-key (c .before) .under-key .ensures) (c .before .start .given .1) in search needs
-
-add-t16 : tie.Need-add-t16
-add-t16 c =
-    let found = after-start (after-policy-value c) in
-    let i = value-inside (after-under-key found .under-key .ensures) (found .start .given .1) in search needs
-
-add-t17 : tie.Need-add-t17
-add-t17 c =
-    let found = after-start (c .before .before) in
-    let i = value-inside (after-under-key found .under-key .ensures) (found .start .given .1) in search needs
-
 returns-2 : tie.Need-returns-2
 unfolding policyLine
 returns-2 c =
-    let found = after-start (after-policy-value c) in
     let value = after-policy-value c in
-    good-read (after-under-key found .under-key .ensures) _ (found .start .given .1)
-    (ap policyMeant (sym (value .policy-value .ensures) ∙ ap policyCase (c .before .policy .given .1)))
+    good-read (found (after-start value)) _ (is-case value _ (c .before .policy .given .1))
 
 returns-3 : tie.Need-returns-3
 unfolding policyLine
 returns-3 c =
-    let found = after-start (c .before .before) in
-    good-read (after-under-key found .under-key .ensures) _ (found .start .given .1)
-    (ap policyMeant (sym (c .before .before .policy-value .ensures) ∙ ap policyCase (c .enum-told2 .given .1)))
+    let value = c .before .before in
+    good-read (found (after-start value)) _ (is-case value _ (c .enum-told2 .given .1))
 
 returns-4 : tie.Need-returns-4
 unfolding policyLine
 returns-4 c =
-    let found = after-start (c .before .before) in
-    wrong-read (after-under-key found .under-key .ensures) _ (found .start .given .1) refl tt
-    (ap policyMeant (sym (c .before .before .policy-value .ensures) ∙ ap policyCase (c .enum-told3 .given .1)))
+    let value = c .before .before in
+    wrong-read (found (after-start value)) _ refl tt (is-case value _ (c .enum-told3 .given .1))
 
 pub policy-line-spec : {M : Type 1} → statement M
 policy-line-spec =
@@ -74,14 +64,14 @@ policy-line-spec =
     (λ c. search needs)
     (λ c. search needs)
     returns
-    sub-policy-value
-    part-policy-value-start
-    part-policy-value-end
+    (λ c. omega (arith, found (c .before) .inside))
+    (λ c. omega (arith, found (c .before) .inside))
+    (λ c. omega (arith, found (c .before) .inside))
     (λ c κs. search needs)
     (λ c. search needs)
-    add-t16
+    (λ c. omega (arith, found (after-start (after-policy-value c)) .inside))
     (λ c. search needs)
-    add-t17
+    (λ c. omega (arith, found (after-start (c .before .before)) .inside))
     (λ c. search needs)
     returns-2
     returns-3

@@ -1,91 +1,67 @@
 -- A line under its key, and its value by the form of a whole number and then its range.
-use mathlib.Core.Path.{_≡_, refl, sym, ap, _∙_}
-use mathlib.Core.Bool.{Bool, true, false, not, true≢false, false≢true}
-use Prim.Native.Nat.{ℕ}
+use mathlib.Core.Path.{_≡_, refl, sym, ap, subst, _∙_}
+use Prim.Native.Nat.{_-_}
+use native.Mathlib.Omega.{arith}
+use lib.ListN.{take, drop}
 use borrow.Author.Needs.{needs}
-use Rattle.terms.specs.Choice.{if_then_else_}
-use Rattle.terms.specs.Limits.{knownSize}
-use Rattle.terms.specs.Refusals.{sizeNotKnown}
-use Rattle.sheets.specs.Number.{Value, means, wrong}
+use Rattle.terms.proofs.Tests.{test-holds, test-fails}
+use Rattle.text.specs.Text.{bytes}
+use Rattle.sheets.specs.Number.{means, whole}
 use Rattle.sheets.specs.Bid.{inRange, sizeLine}
 use Rattle.numbers.specs.Meant.{meant}
-use Rattle.bid.proofs.Readings.{value-inside, no-line-read, good-read, wrong-read}
+use Rattle.bid.specs.Answers.{KeyedAt}
+use Rattle.bid.specs.declared.keyed_lines.Keyed.the-variants.{Value}
+use Rattle.bid.proofs.Readings.{no-line-read, good-read, wrong-read}
 use Rattle.bid.proofs.keyed_lines.size_line.Statement.{statement}
 use Rattle.bid.proofs.keyed_lines.size_line.Tie as tie
 
 -- The places that are looked back to.
-abbrev after-under-key : tie.After-start → tie.After-under-key
-after-under-key c = c .before .before
+abbrev at-start : tie.After-start → tie.Start
+at-start c = c .before .before .before .before .before
 
-abbrev after-start : tie.After-c → tie.After-start
-after-start c = c .before .before .before .before .before
+abbrev after-start : tie.After-whole → tie.After-start
+after-start c = c .before .before .before
 
-abbrev after-known-told : tie.After-enum-told2 → tie.After-known-told
-after-known-told c = c .before .before .before .before
+abbrev after-whole : tie.After-c → tie.After-whole
+after-whole c = c .before .before
 
 abbrev after-c : tie.After-known-size → tie.After-c
 after-c c = c .before .before
 
--- A well-formed number is meant where it is a size, and refused where it is none.
-module _ (n : ℕ) where
-  abbrev ranged : Bool → Value
-  ranged known = if known then means n else wrong sizeNotKnown
+-- Where the value stands, and the number that it is.
+found : (c : tie.After-start) → let a = at-start c .args in let v = c .start .given .0 in
+    KeyedAt (a .sheet .now) (a .at) (bytes "pages=") (Value (v .0) (v .1 .0))
+found c = subst (KeyedAt _ _ _) (c .start .given .1) (c .before .before .under-key .ensures)
 
-  in-range : (known : Bool) → known ≡ knownSize n → not known ≡ false → inRange (means n) ≡ means n
-  in-range true is stays = ap ranged (sym is)
-  in-range false is stays = absurd (true≢false stays)
-
-  out-of-range : (known : Bool) → known ≡ knownSize n → not known ≡ true → inRange (means n) ≡ wrong sizeNotKnown
-  out-of-range true is goes = absurd (false≢true goes)
-  out-of-range false is goes = ap ranged (sym is)
+is-number : (c : tie.After-c) → let f = after-start (after-whole c) in
+    let s = at-start f .args .sheet .now in let p = f .start .given .0 in
+    inRange (whole (take (p .1 .0 - p .0) (drop (p .0) s))) ≡ inRange (means (c .c .given .0 .0))
+is-number c = ap inRange (sym (after-whole c .whole .ensures) ∙ ap meant (c .c .given .1))
 
 returns : tie.Need-returns
 unfolding sizeLine
 returns c = no-line-read (c .before .before .under-key .ensures) _ (c .enum-told .given .1)
 
-sub-whole : tie.Need-sub-whole
-sub-whole c =
-    let i = value-inside (after-under-key (c .before) .under-key .ensures) (c .before .start .given .1) in search needs
-
-part-whole-start : tie.Need-part-whole-start
-part-whole-start c =
-    let i = value-inside (after-under-key (c .before) .under-key .ensures) (c .before .start .given .1) in search needs
-
-part-whole-end : tie.Need-part-whole-end
-part-whole-end c =
-    let i = value-inside (after-under-key (c .before) .under-key .ensures) (c .before .start .given .1) in search needs
-
 returns-2 : tie.Need-returns-2
 unfolding sizeLine
 returns-2 c =
-    let found = after-known-told c .before in
-    wrong-read (after-under-key found .under-key .ensures) _ (found .start .given .1) refl tt
-    (ap inRange (sym (c .before .before .whole .ensures) ∙ ap meant (c .enum-told2 .given .1)))
+    let w = c .before .before in
+    wrong-read (found (after-start w)) _ refl tt
+    (ap inRange (sym (w .whole .ensures) ∙ ap meant (c .enum-told2 .given .1)))
 
 returns-3 : tie.Need-returns-3
 unfolding sizeLine
 returns-3 c =
-    let sized = c .before in
-    let number = after-c sized in
-    let found = after-start number in
-    wrong-read (after-under-key found .under-key .ensures) _ (found .start .given .1) refl tt
-    (ap inRange (sym (number .before .before .whole .ensures) ∙ ap meant (number .c .given .1))
-    ∙ out-of-range (number .c .given .0 .0) _ (sized .known-size .ensures) (c .if1 .taken))
-
-add-t12 : tie.Need-add-t12
-add-t12 c =
-    let found = after-start (after-c (c .before)) in
-    let i = value-inside (after-under-key found .under-key .ensures) (found .start .given .1) in search needs
+    let number = after-c (c .before) in
+    let unknown = test-fails (c .before .known-size .ensures) (c .if1 .taken) in
+    wrong-read (found (after-start (after-whole number))) _ refl tt (is-number number ∙ rw unknown)
 
 returns-4 : tie.Need-returns-4
 unfolding sizeLine
 returns-4 c =
-    let sized = c .before in
-    let number = after-c sized in
-    let found = after-start number in
-    good-read (after-under-key found .under-key .ensures) _ (found .start .given .1)
-    (ap inRange (sym (number .before .before .whole .ensures) ∙ ap meant (number .c .given .1))
-    ∙ in-range (number .c .given .0 .0) _ (sized .known-size .ensures) (c .if1 .left))
+    let number = after-c (c .before) in
+    let known = test-holds (c .before .known-size .ensures) (c .if1 .left) in
+    good-read (found (after-start (after-whole number))) _ (is-number number ∙ rw known)
 
 pub size-line-spec : {M : Type 1} → statement M
 size-line-spec =
@@ -96,14 +72,14 @@ size-line-spec =
     (λ c. search needs)
     (λ c. search needs)
     returns
-    sub-whole
-    part-whole-start
-    part-whole-end
+    (λ c. omega (arith, found (c .before) .inside))
+    (λ c. omega (arith, found (c .before) .inside))
+    (λ c. omega (arith, found (c .before) .inside))
     (λ c κs. search needs)
     (λ c. search needs)
     (λ c. search needs)
     returns-2
     (λ c κs. search needs)
     returns-3
-    add-t12
+    (λ c. omega (arith, found (after-start (after-whole (after-c (c .before)))) .inside))
     returns-4)
