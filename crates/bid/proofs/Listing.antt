@@ -1,5 +1,5 @@
 -- The page lines by the answers of one after the other: how a count, and a buffer, grow with each.
-use mathlib.Core.Path.{_≡_, refl, sym, ap, _∙_}
+use mathlib.Core.Path.{_≡_, refl, sym, ap, subst, _∙_}
 use mathlib.Core.List.{List, [], _∷_, _++_, append-nil, append-assoc}
 use Prim.Native.Nat.{ℕ, suc, _+_, _≤_, _<_}
 use native.Mathlib.Omega.{arith}
@@ -46,9 +46,10 @@ pub record PageRead (s : List ℕ) (at n page next : ℕ) : Type 0 where
   pub further : at < next
   pub inside : next ≤ ∣ s ∣
 
-pub page-read : (s : List ℕ) (at n page next : ℕ) → ReadsLine s at (pageLine n (lines (drop at s))) (Good page next)
-    → PageRead s at n page next
-page-read s at n page next h =
+pub page-read : {s : List ℕ} {at : ℕ} (n : ℕ) {page next : ℕ} {r : Reading}
+    → ReadsLine s at (pageLine n (lines (drop at s))) r → r ≡ Good page next → PageRead s at n page next
+page-read {s} {at} n {page} {next} read is =
+    let h = subst (ReadsLine s at _) is read in
     let rest = lines (drop next s) in
     let more = next-page n page rest (lines (drop at s)) (sym (h .tells)) in
     let one-more : suc n ≡ n + 1 = omega arith in
@@ -60,10 +61,10 @@ page-read s at n page next h =
     }
 
 -- A page line that is wrong decides.
-pub page-wrong : (s : List ℕ) (at n : ℕ) (r : Reading) → at < ∣ s ∣ → Wrong r
-    → ReadsLine s at (pageLine n (lines (drop at s))) r
+pub page-wrong : {s : List ℕ} {at : ℕ} (n : ℕ) {r : Reading} → at < ∣ s ∣
+    → ReadsLine s at (pageLine n (lines (drop at s))) r → Wrong r
     → pagesFrom n (lines (drop at s)) ≡ refusedAt (numberOf r) (numberOfLine n)
-page-wrong s at n r inside tag h =
+page-wrong {s} {at} n {r} inside h tag =
     wrong-page n (numberOf r) (lines (drop at s)) (not-at-end s at inside) (sym (h .tells) ∙ refuses s r tag)
 
 -- THE COUNT
@@ -73,9 +74,9 @@ abbrev pub after : ℕ → Listed → Listed
 after n (Listed.Pages count) = Listed.Pages (n + count)
 after n (Listed.Refused number line) = Listed.Refused number line
 
-pub after-none : (ps : Pages) → sizeOf ps ≡ after 0 (sizeOf ps)
-after-none (listed pages) = let h : ∣ pages ∣ ≡ 0 + ∣ pages ∣ = omega arith in ap Listed.Pages h
-after-none (refusedAt number line) = refl
+pub after-none : (l : Listed) → l ≡ after 0 l
+after-none (Listed.Pages count) = let h : count ≡ 0 + count = omega arith in ap Listed.Pages h
+after-none (Listed.Refused number line) = refl
 
 after-one-more : (n page : ℕ) (rest : Lines) (ps : Pages)
     → after n (sizeOf (onto n (good page rest) ps)) ≡ after (n + 1) (sizeOf ps)
@@ -83,10 +84,10 @@ after-one-more n page rest (listed pages) =
     let h : n + suc ∣ pages ∣ ≡ n + 1 + ∣ pages ∣ = omega arith in ap Listed.Pages h
 after-one-more n page rest (refusedAt number line) = refl
 
-pub counts-on : (s : List ℕ) (at n page next : ℕ) → PageRead s at n page next
+pub counts-on : {s : List ℕ} {at n page next : ℕ} → PageRead s at n page next
     → after n (sizeOf (pagesFrom n (lines (drop at s))))
     ≡ after (n + 1) (sizeOf (pagesFrom (n + 1) (lines (drop next s))))
-counts-on s at n page next h =
+counts-on {s} {n = n} {page} {next} h =
     let rest = lines (drop next s) in
     ap (λ ps. after n (sizeOf ps)) (h .goes-on) ∙ after-one-more n page rest (pagesFrom (n + 1) rest)
 
@@ -121,10 +122,10 @@ nothing-written s start w = record {
     behind-none (listed pages) = refl
     behind-none (refusedAt number line) = refl
 
-module _ (s : List ℕ) (start : ℕ) (w : List ℕ) (at n : ℕ) (now : List ℕ) (h : Writing s start w at n now) where
-  pub writes-on : (page next : ℕ) → n < ∣ w ∣ → PageRead s at n page next
+module _ {s : List ℕ} {start : ℕ} {w : List ℕ} {at n : ℕ} {now : List ℕ} (h : Writing s start w at n now) where
+  pub writes-on : {page next : ℕ} → n < ∣ w ∣ → PageRead s at n page next
       → Writing s start w next (n + 1) (set now n page)
-  writes-on page next room one = record {
+  writes-on {page} {next} room one = record {
     written = h .written ++ (page ∷ []);
     as-many = length-append (h .written) (page ∷ []) ∙ omega (arith, h .as-many);
     now-is =
@@ -144,9 +145,9 @@ module _ (s : List ℕ) (start : ℕ) (w : List ℕ) (at n : ℕ) (now : List �
       let all : h .written ≡ pages = sym (append-nil (h .written)) ∙ same in
       h .now-is ∙ ap (λ (m : ℕ). h .written ++ drop m w) (sym (h .as-many)) ∙ ap (λ l. over l w) all
 
-  pub never-wrong : (number line : ℕ) → pagesFrom n (lines (drop at s)) ≡ refusedAt number line
+  pub never-wrong : {number line : ℕ} → pagesFrom n (lines (drop at s)) ≡ refusedAt number line
       → PagesFilled s start w now
-  never-wrong number line wrong pages is =
+  never-wrong wrong pages is =
       let clash = sym is ∙ h .others-follow ∙ ap (behind (h .written)) wrong in
       let never : _≡_ {A = ℕ} 0 1 = cc in
       absurd (omega arith)

@@ -23,16 +23,32 @@ use Rattle.bid.proofs.Listing.{Wrong, refuses}
 -- ONE LINE
 
 module _ {s : List ℕ} {at : ℕ} {reading : Lines.Reading} {r : Reading} (n : ℕ) (follows : ℕ → Lines → Meaning) where
-  line-decides : ReadsLine s at reading r → Wrong r → afterLine n reading follows ≡ refused (numberOf r) n
+  pub line-decides : ReadsLine s at reading r → Wrong r → afterLine n reading follows ≡ refused (numberOf r) n
   line-decides h wrong = ap (λ x. afterLine n x follows) (sym (h .tells) ∙ refuses s r wrong)
 
-  line-goes-on : {value next : ℕ} → ReadsLine s at reading r → r ≡ Good value next
+  pub line-goes-on : {value next : ℕ} → ReadsLine s at reading r → r ≡ Good value next
       → afterLine n reading follows ≡ follows value (lines (drop next s))
   line-goes-on h is = ap (λ x. afterLine n x follows) (sym (h .tells) ∙ ap (told s) is)
 
+-- THE LINES IN ORDER
+
+abbrev pub fromFourth : ℕ → ℕ → ℕ → Lines → Meaning
+fromFourth policy c cost ls = withPages policy c cost (pagesFrom 0 ls)
+
+abbrev pub fromThird : ℕ → ℕ → Lines → Meaning
+fromThird policy c ls = afterLine 3 (costLine ls) (fromFourth policy c)
+
+abbrev pub fromSecond : ℕ → Lines → Meaning
+fromSecond policy ls = afterLine 2 (sizeLine ls) (fromThird policy)
+
+pub from-first : (ls : Lines) → inOrder ls ≡ afterLine 1 (policyLine ls) fromSecond
+unfolding inOrder
+from-first ls = refl
+
 -- THE PAGE LINES BY THEIR COUNT
 
-pages-refused : (ps : Pages) {number line : ℕ} → Listed.Refused number line ≡ sizeOf ps → ps ≡ refusedAt number line
+pub pages-refused : (ps : Pages) {number line : ℕ} → Listed.Refused number line ≡ sizeOf ps
+    → ps ≡ refusedAt number line
 pages-refused (listed pages) h = let never : _≡_ {A = ℕ} 0 1 = cc in absurd (omega arith)
 pages-refused (refusedAt number line) h = cc
 
@@ -44,49 +60,6 @@ pub record PagesCounted (ps : Pages) (count : ℕ) : Type 0 where
 pub pages-counted : (ps : Pages) {count : ℕ} → Listed.Pages count ≡ sizeOf ps → PagesCounted ps count
 pages-counted (listed pages) h = record { pages = pages; is-listed = refl; as-many = cc }
 pages-counted (refusedAt number line) h = let never : _≡_ {A = ℕ} 0 1 = cc in absurd (omega arith)
-
--- THE LINES IN ORDER
-
-abbrev fromFourth : ℕ → ℕ → ℕ → Lines → Meaning
-fromFourth policy c cost ls = withPages policy c cost (pagesFrom 0 ls)
-
-abbrev fromThird : ℕ → ℕ → Lines → Meaning
-fromThird policy c ls = afterLine 3 (costLine ls) (fromFourth policy c)
-
-abbrev fromSecond : ℕ → Lines → Meaning
-fromSecond policy ls = afterLine 2 (sizeLine ls) (fromThird policy)
-
-module _ {s : List ℕ} {r₁ : Reading} (first : ReadsLine s 0 (policyLine (lines s)) r₁) where
-  pub first-wrong : Wrong r₁ → inOrder (lines s) ≡ refused (numberOf r₁) 1
-  unfolding inOrder
-  first-wrong wrong = line-decides 1 fromSecond first wrong
-
-  module _ {policy next : ℕ} (first-is : r₁ ≡ Good policy next)
-      {r₂ : Reading} (second : ReadsLine s next (sizeLine (lines (drop next s))) r₂) where
-    after-first : inOrder (lines s) ≡ fromSecond policy (lines (drop next s))
-    unfolding inOrder
-    after-first = line-goes-on 1 fromSecond first first-is
-
-    pub second-wrong : Wrong r₂ → inOrder (lines s) ≡ refused (numberOf r₂) 2
-    second-wrong wrong = after-first ∙ line-decides 2 (fromThird policy) second wrong
-
-    module _ {c next₂ : ℕ} (second-is : r₂ ≡ Good c next₂)
-        {r₃ : Reading} (third : ReadsLine s next₂ (costLine (lines (drop next₂ s))) r₃) where
-      after-second : inOrder (lines s) ≡ fromThird policy c (lines (drop next₂ s))
-      after-second = after-first ∙ line-goes-on 2 (fromThird policy) second second-is
-
-      pub third-wrong : Wrong r₃ → inOrder (lines s) ≡ refused (numberOf r₃) 3
-      third-wrong wrong = after-second ∙ line-decides 3 (fromFourth policy c) third wrong
-
-      pub pages-decide : {cost next₃ : ℕ} → r₃ ≡ Good cost next₃
-          → inOrder (lines s) ≡ withPages policy c cost (pagesFrom 0 (lines (drop next₃ s)))
-      pages-decide is = after-second ∙ line-goes-on 3 (fromFourth policy c) third is
-
-      pub wrong-page-decides : {cost next₃ number line : ℕ} → r₃ ≡ Good cost next₃
-          → Listed.Refused number line ≡ sizeOf (pagesFrom 0 (lines (drop next₃ s)))
-          → inOrder (lines s) ≡ refused number line
-      wrong-page-decides {cost} {next₃} is wrong =
-          pages-decide is ∙ ap (withPages policy c cost) (pages-refused (pagesFrom 0 (lines (drop next₃ s))) wrong)
 
 -- THE ANSWER
 

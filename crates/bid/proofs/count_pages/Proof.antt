@@ -1,12 +1,12 @@
 -- The pages counted and those of the lines from here on are the pages of all page lines.
-use mathlib.Core.Path.{_≡_, sym, ap, subst, _∙_}
+use mathlib.Core.Path.{_≡_, sym, ap, _∙_}
 use Prim.Native.Nat.{_≤_, _+_, _-_}
 use native.Mathlib.Omega.{arith}
 use lib.ListN.{length, drop, drop-of-length-le}
 use borrow.Author.Needs.{needs}
 use Rattle.sheets.specs.Lines.{lines}
 use Rattle.sheets.specs.Bid.{pagesFrom}
-use Rattle.bid.specs.Answers.{ReadsLine, sizeOf}
+use Rattle.bid.specs.Answers.{sizeOf}
 use Rattle.bid.specs.declared.Listed.the-variants as Listed
 use Rattle.bid.proofs.Listing.{PageRead, page-read, page-wrong, after, after-none, counts-on}
 use Rattle.bid.proofs.count_pages.Statement.{statement}
@@ -31,42 +31,23 @@ abbrev after-page-line : tie.After-page Inv-loop μ-loop → tie.After-page-line
 after-page-line c = c .before .before
 
 -- A good page line, in the loop.
-good-page : (c : tie.After-page Inv-loop μ-loop)
-    → let in-loop = at-loop (after-page-line c) in
+good-page : (c : tie.After-page Inv-loop μ-loop) → let in-loop = at-loop (after-page-line c) in
     let s = at-start in-loop .args .sheet .now in
     PageRead s (in-loop .loop .at) (in-loop .loop .count) (c .page .given .0 .0) (c .page .given .0 .1 .0)
-good-page c = page-read _ _ _ _ _ (subst (ReadsLine _ _ _) (c .page .given .1) (after-page-line c .page-line .ensures))
-
-loop-holds : tie.Need-loop-holds Inv-loop μ-loop
-loop-holds c =
-    (omega arith, after-none (pagesFrom 0 (lines (drop (c .before .args .start) (c .before .args .sheet .now)))))
-
-add-t10 : tie.Need-add-t10 Inv-loop μ-loop
-add-t10 c = let few = at-loop (c .before .before) .loop .inv .0 in search needs
+good-page c = page-read _ (after-page-line c .page-line .ensures) (c .page .given .1)
 
 returns : tie.Need-returns Inv-loop μ-loop
 returns c =
-    let page = c .before .before in
-    let v = at-loop page .loop in
-    let s = at-start (at-loop page) .args .sheet .now in
-    let inside = page .before .loop-test .taken in
-    let wrong = page-wrong s (v .at) (v .count) _ inside (c .before .match .keys2) (page .page-line .ensures) in
+    let line = c .before .before in
+    let v = at-loop line .loop in
+    let wrong = page-wrong _ (line .before .loop-test .taken) (line .page-line .ensures) (c .before .match .keys2) in
     ap (λ number. Listed.Refused number (v .count + 4)) (c .number-of .ensures)
     ∙ sym (v .inv .1 ∙ ap (λ ps. after (v .count) (sizeOf ps)) wrong)
-
-add-count : tie.Need-add-count Inv-loop μ-loop
-add-count c = let few = good-page (c .before) .one-of-thousand in search needs
-
-loop-less : tie.Need-loop-less Inv-loop μ-loop
-loop-less c = let h = good-page (c .before) in omega arith
 
 loop-again : tie.Need-loop-again Inv-loop μ-loop
 loop-again c =
     let h = good-page (c .before) in
-    let v = at-loop (after-page-line (c .before)) .loop in (
-      omega arith,
-      v .inv .1 ∙ counts-on _ _ _ _ _ h,
-    )
+    (omega arith, at-loop (after-page-line (c .before)) .loop .inv .1 ∙ counts-on h)
 
 returns-2 : tie.Need-returns-2 Inv-loop μ-loop
 returns-2 c =
@@ -82,13 +63,13 @@ count-pages-spec =
     (tie.spec
     Inv-loop
     μ-loop
-    loop-holds
+    (λ c. (omega arith, after-none _))
     (λ c κs. search needs)
     (λ c. search needs)
     (λ c κs. search needs)
-    add-t10
+    (λ c. omega (arith, at-loop (c .before .before) .loop .inv .0))
     returns
-    add-count
-    loop-less
+    (λ c. omega (arith, good-page (c .before) .one-of-thousand))
+    (λ c. omega (arith, good-page (c .before) .further, good-page (c .before) .inside))
     loop-again
     returns-2)

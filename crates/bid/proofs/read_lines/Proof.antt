@@ -1,14 +1,19 @@
 -- Line after line: what the answers so far make of the sheet.
-use mathlib.Core.Path.{sym, _∙_}
+use mathlib.Core.Path.{_≡_, sym, ap, _∙_}
+use mathlib.Core.List.{List}
+use Prim.Native.Nat.{ℕ}
+use lib.ListN.{drop}
 use borrow.Author.Needs.{needs}
-use Rattle.bid.proofs.Reader.{first-wrong, second-wrong, third-wrong, pages-decide, wrong-page-decides}
-use Rattle.bid.proofs.Reader.{pages-counted, answers-refusal, answers-wrong-line, answers-bid}
+use Rattle.sheets.specs.Lines.{lines}
+use Rattle.sheets.specs.Bid.{Pages, pagesFrom, withPages, inOrder}
+use Rattle.bid.proofs.Reader.{line-decides, line-goes-on, fromFourth, fromThird, fromSecond, from-first}
+use Rattle.bid.proofs.Reader.{pages-refused, pages-counted, answers-refusal, answers-wrong-line, answers-bid}
 use Rattle.bid.proofs.read_lines.Statement.{statement}
 use Rattle.bid.proofs.read_lines.Tie as tie
 
 -- The places that are looked back to.
-abbrev after-policy-line : tie.After-policy-read → tie.After-policy-line
-after-policy-line c = c .before .before
+abbrev sheet : tie.After-policy-read → List ℕ
+sheet c = c .before .before .before .before .before .args .sheet .now
 
 abbrev after-policy-read : tie.After-size-read → tie.After-policy-read
 after-policy-read c = c .before .before .before .before
@@ -16,63 +21,67 @@ after-policy-read c = c .before .before .before .before
 abbrev after-size-read : tie.After-cost-read → tie.After-size-read
 after-size-read c = c .before .before .before .before
 
-abbrev after-cost-read : tie.After-count-pages → tie.After-cost-read
-after-cost-read c = c .before .before
-
 abbrev after-listed2 : tie.After-slice-known2 → tie.After-listed2
 after-listed2 c = c .before .before .before .before .before
 
+-- What the sheet comes to by the lines after the first, after the second and after the third.
+by-second : (c : tie.After-policy-read) → let first = c .policy-read .given .0 in
+    inOrder (lines (sheet c)) ≡ fromSecond (first .0) (lines (drop (first .1 .0) (sheet c)))
+by-second c =
+    from-first _ ∙ line-goes-on 1 fromSecond (c .before .before .policy-line .ensures) (c .policy-read .given .1)
+
+by-third : (c : tie.After-size-read) → let p = after-policy-read c in let second = c .size-read .given .0 in
+    inOrder (lines (sheet p))
+    ≡ fromThird (p .policy-read .given .0 .0) (second .0) (lines (drop (second .1 .0) (sheet p)))
+by-third c =
+    by-second (after-policy-read c)
+    ∙ line-goes-on 2 (fromThird _) (c .before .before .size-line .ensures) (c .size-read .given .1)
+
+abbrev pages : tie.After-cost-read → Pages
+pages c = pagesFrom 0 (lines (drop (c .cost-read .given .0 .1 .0) (sheet (after-policy-read (after-size-read c)))))
+
+by-pages : (c : tie.After-cost-read) → let z = after-size-read c in let p = after-policy-read z in
+    inOrder (lines (sheet p))
+    ≡ withPages (p .policy-read .given .0 .0) (z .size-read .given .0 .0) (c .cost-read .given .0 .0) (pages c)
+by-pages c =
+    by-third (after-size-read c)
+    ∙ line-goes-on 3 (fromFourth _ _) (c .before .before .cost-line .ensures) (c .cost-read .given .1)
+
 returns : tie.Need-returns
 returns c =
-    let first = c .before .before in
-    answers-wrong-line (first-wrong (first .before .policy-line .ensures) (first .match .keys2))
+    let line = c .before .before .before in
+    answers-wrong-line
+    (from-first _ ∙ line-decides 1 fromSecond (line .policy-line .ensures) (c .before .before .match .keys2))
     (c .before .number-of .ensures) (c .refused .ensures)
 
 returns-2 : tie.Need-returns-2
 returns-2 c =
-    let second = c .before .before in
-    let first = second .before .before .before in
-    answers-wrong-line
-    (second-wrong (after-policy-line first .policy-line .ensures) (first .policy-read .given .1)
-    (second .before .size-line .ensures) (second .match2 .keys2))
+    let line = c .before .before .before in
+    let decides = line-decides 2 (fromThird _) (line .size-line .ensures) (c .before .before .match2 .keys2) in
+    answers-wrong-line (by-second (line .before .before) ∙ decides)
     (c .before .number-of2 .ensures) (c .refused2 .ensures)
 
 returns-3 : tie.Need-returns-3
 returns-3 c =
-    let third = c .before .before in
-    let second = third .before .before .before in
-    let first = after-policy-read second in
-    answers-wrong-line
-    (third-wrong (after-policy-line first .policy-line .ensures) (first .policy-read .given .1)
-    (second .before .before .size-line .ensures) (second .size-read .given .1)
-    (third .before .cost-line .ensures) (third .match3 .keys2))
+    let line = c .before .before .before in
+    let decides = line-decides 3 (fromFourth _ _) (line .cost-line .ensures) (c .before .before .match3 .keys2) in
+    answers-wrong-line (by-third (line .before .before) ∙ decides)
     (c .before .number-of3 .ensures) (c .refused3 .ensures)
 
 returns-4 : tie.Need-returns-4
 returns-4 c =
     let listed = c .before .before in
-    let third = after-cost-read (listed .before .before) in
-    let second = after-size-read third in
-    let first = after-policy-read second in
-    answers-refusal
-    (wrong-page-decides (after-policy-line first .policy-line .ensures) (first .policy-read .given .1)
-    (second .before .before .size-line .ensures) (second .size-read .given .1)
-    (third .before .before .cost-line .ensures) (third .cost-read .given .1)
-    (sym (listed .listed .given .1) ∙ listed .before .before .count-pages .ensures))
-    (c .refused4 .ensures)
+    let counted = listed .before .before in
+    let r = counted .before .before in
+    let wrong = pages-refused (pages r) (sym (listed .listed .given .1) ∙ counted .count-pages .ensures) in
+    answers-refusal (by-pages r ∙ ap (withPages _ _ _) wrong) (c .refused4 .ensures)
 
 returns-5 : tie.Need-returns-5
 returns-5 c =
     let listed = after-listed2 c in
-    let third = after-cost-read (listed .before .before) in
-    let second = after-size-read third in
-    let first = after-policy-read second in
-    answers-bid
-    (pages-decide (after-policy-line first .policy-line .ensures) (first .policy-read .given .1)
-    (second .before .before .size-line .ensures) (second .size-read .given .1)
-    (third .before .before .cost-line .ensures) (third .cost-read .given .1))
-    (pages-counted _ (sym (listed .listed2 .given .1) ∙ listed .before .before .count-pages .ensures))
-    (c .before .before .fill .ensures)
+    let counted = listed .before .before in
+    let all = pages-counted _ (sym (listed .listed2 .given .1) ∙ counted .count-pages .ensures) in
+    answers-bid (by-pages (counted .before .before)) all (c .before .before .fill .ensures)
 
 pub read-lines-spec : {M : Type 1} → statement M
 read-lines-spec =

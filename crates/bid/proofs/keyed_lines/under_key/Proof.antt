@@ -19,15 +19,15 @@ closed : (c : tie.After-end) → let a = at-start c .args in ClosedAt (a .sheet 
 closed c = closed-line _ _ _ (sym (c .before .before .line-at .ensures) ∙ c .end .given .1)
 
 returns : tie.Need-returns
-returns c = no-line _ _ _ (missing-line _ _ (sym (c .before .before .line-at .ensures) ∙ c .enum-told .given .1))
+returns c = no-line (missing-line _ _ (sym (c .before .before .line-at .ensures) ∙ c .enum-told .given .1))
 
 returns-2 : tie.Need-returns-2
 returns-2 c =
-    its-key _ _ _ _ (closed (after-end (c .before))) (sym (c .before .starts-with .ensures) ∙ c .if1 .taken)
+    its-key (closed (after-end (c .before))) (sym (c .before .starts-with .ensures) ∙ c .if1 .taken)
 
 returns-3 : tie.Need-returns-3
 returns-3 c =
-    other-key _ _ _ _ (closed (after-end (c .before))) (sym (c .before .starts-with .ensures) ∙ c .if1 .left)
+    other-key (closed (after-end (c .before))) (sym (c .before .starts-with .ensures) ∙ c .if1 .left)
 
 pub under-key-spec : {M : Type 1} → statement M
 under-key-spec =
