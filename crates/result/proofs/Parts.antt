@@ -1,37 +1,45 @@
--- The sheet by its parts, and the length of the tally's lines.
-use mathlib.Core.Path.{_≡_, sym, ap, _∙_}
-use mathlib.Core.List.{_++_, append-assoc}
-use Prim.Native.Nat.{_+_}
-use lib.ListN.{length, length-append}
+-- The result sheet and its tally by their parts, and the room for each part.
+use mathlib.Core.Path.{_≡_}
+use mathlib.Core.List.{List, _++_, append-assoc}
+use Prim.Native.Nat.{ℕ, _+_, _≤_}
+use Prim.Native.String.{String}
+use native.Mathlib.Omega.{arith}
+use lib.ListN.{length-append}
 use Rattle.terms.specs.Choice.{∣_∣}
 use Rattle.terms.specs.Policies.{policyName}
 use Rattle.text.specs.Text.{bytes}
 use Rattle.sheets.specs.Result.{Outcome, decimal, milliseconds, lineOf, resultSheet}
+use Rattle.result.specs.Put.{PutFits}
 use Rattle.result.specs.Parts.{tallyLines}
+use Rattle.result.proofs.Putting.{room-as}
 
-pub sheet-parts : (r : Outcome)
-    → lineOf (bytes "policy=") (bytes (policyName (r .policy)))
-    ++ (lineOf (bytes "pages=") (decimal (r .pages))
-    ++ (tallyLines r
-    ++ lineOf (bytes "wait=") (milliseconds (r .wait))))
-    ≡ resultSheet r
-unfolding tallyLines resultSheet
-sheet-parts r = simp append-assoc
+-- A line with a number.
+abbrev line : String → ℕ → List ℕ
+line key n = lineOf (bytes key) (decimal n)
 
-pub sheet-length : (r : Outcome)
-    → ∣ resultSheet r ∣ ≡
-    ∣ lineOf (bytes "policy=") (bytes (policyName (r .policy))) ∣
-    + (∣ lineOf (bytes "pages=") (decimal (r .pages)) ∣
-    + (∣ tallyLines r ∣
-    + ∣ lineOf (bytes "wait=") (milliseconds (r .wait)) ∣))
-sheet-length r = sym (ap length (sheet-parts r)) ∙ simp length-append
+module _ (r : Outcome) where
+  abbrev policy : List ℕ
+  policy = lineOf (bytes "policy=") (bytes (policyName (r .policy)))
 
-pub tally-length : (r : Outcome)
-    → ∣ tallyLines r ∣ ≡
-    ∣ lineOf (bytes "requests=") (decimal (r .requests)) ∣
-    + (∣ lineOf (bytes "hits=") (decimal (r .hits)) ∣
-    + (∣ lineOf (bytes "misses=") (decimal (r .misses)) ∣
-    + (∣ lineOf (bytes "evictions=") (decimal (r .evictions)) ∣
-    + ∣ lineOf (bytes "steps=") (decimal (r .steps)) ∣)))
-unfolding tallyLines
-tally-length r = simp length-append
+  abbrev wait : List ℕ
+  wait = lineOf (bytes "wait=") (milliseconds (r .wait))
+
+  pub sheet-parts : resultSheet r ≡ policy ++ (line "pages=" (r .pages) ++ (tallyLines r ++ wait))
+  unfolding tallyLines resultSheet
+  sheet-parts = simp append-assoc
+
+  pub sheet-room : {w : List ℕ} {at : ℕ} → PutFits w at (resultSheet r)
+      → at + (∣ policy ∣ + (∣ line "pages=" (r .pages) ∣ + (∣ tallyLines r ∣ + ∣ wait ∣))) ≤ ∣ w ∣
+  sheet-room room =
+      let parts = simp length-append at (room-as sheet-parts room .fits) in simp length-append (omega arith)
+
+  pub tally-room : {w : List ℕ} {at : ℕ} → PutFits w at (tallyLines r)
+      → at
+      + (∣ line "requests=" (r .requests) ∣
+      + (∣ line "hits=" (r .hits) ∣
+      + (∣ line "misses=" (r .misses) ∣
+      + (∣ line "evictions=" (r .evictions) ∣
+      + ∣ line "steps=" (r .steps) ∣))))
+      ≤ ∣ w ∣
+  unfolding tallyLines
+  tally-room room = let parts = simp length-append at (room .fits) in simp length-append (omega arith)

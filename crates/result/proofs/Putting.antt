@@ -1,7 +1,7 @@
 -- Bytes put one after another: what is put first and what is put behind it are put as one.
 use mathlib.Core.Path.{_≡_, refl, sym, ap, subst, _∙_}
 use mathlib.Core.List.{List, [], _∷_, _++_, append-assoc, append-nil}
-use Prim.Native.Nat.{ℕ, _+_, _<_}
+use Prim.Native.Nat.{ℕ, _+_, _≤_, _<_}
 use native.Mathlib.Omega.{arith}
 use native.Mathlib.Numerals.{add-one}
 use native.Mathlib.Nat.{zero-add}
@@ -49,27 +49,38 @@ both {w} {w′} {w″} {x} {y} {a} {b} {c} p q = record {
     further : (l : List ℕ) → drop c l ≡ drop ∣ y ∣ (drop b l)
     further l = ap (λ (n : ℕ). drop n l) (q .next-is) ∙ sym (drop-drop ∣ y ∣ b l)
 
--- What is put, said otherwise.
-pub put-as : {w x y w′ : List ℕ} {a b : ℕ} → x ≡ y → Put w a x w′ b → Put w a y w′ b
-put-as {w} {w′ = w′} {a} {b} same p = subst (λ (x : List ℕ). Put w a x w′ b) same p
+-- What is asked for, said as it is put.
+pub put-as : {w x y w′ : List ℕ} {a b : ℕ} → x ≡ y → Put w a y w′ b → Put w a x w′ b
+put-as {w} {w′ = w′} {a} {b} same p = subst (λ (x : List ℕ). Put w a x w′ b) (sym same) p
 
 pub room-as : {w x y : List ℕ} {a : ℕ} → x ≡ y → PutFits w a x → PutFits w a y
 room-as {w} {a = a} same room = subst (λ (x : List ℕ). PutFits w a x) same room
 
 -- Room for both is room for the first, and after it for the second.
-pub room-first : {w : List ℕ} {a : ℕ} (x y : List ℕ) → PutFits w a (x ++ y) → PutFits w a x
-room-first x y room = omega (arith, length-append x y)
+-- Such a law is handed to `omega` as it is, which applies it to what a place knows.
+pub room-both : {w : List ℕ} {a : ℕ} (x y : List ℕ) → PutFits w a (x ++ y) → a + (∣ x ∣ + ∣ y ∣) ≤ ∣ w ∣
+room-both x y room = omega (arith, length-append x y)
 
-pub room-then : {w w′ x y : List ℕ} {a b : ℕ} → Put w a x w′ b → PutFits w a (x ++ y) → PutFits w′ b y
-room-then {x = x} {y} p room = omega (arith, length-append x y)
+-- A line: its key, its value, a line feed; or its key and value together, a line feed.
+module _ {w w₁ key value : List ℕ} {a b : ℕ} where
+  pub value-room : Put w a key w₁ b → PutFits w a (lineOf key value) → PutFits w₁ b value
+  value-room first room = let parts = simp length-append at (room .fits) in omega (arith, first)
 
--- A line: its key, its value, a line feed.
-module _ {w w₁ key value : List ℕ} {a b : ℕ} (room : PutFits w a (lineOf key value)) (first : Put w a key w₁ b) where
-  pub value-room : PutFits w₁ b value
-  value-room = room-first value (lineFeed ∷ []) (room-then first room)
+  pub line-put : {w₂ w₃ : List ℕ} {c d : ℕ}
+      → Put w a key w₁ b → Put w₁ b value w₂ c → Put w₂ c (lineFeed ∷ []) w₃ d → Put w a (lineOf key value) w₃ d
+  line-put first second third = both first (both second third)
 
-  pub feed-room : {w₂ : List ℕ} {c : ℕ} → Put w₁ b value w₂ c → PutFits w₂ c (lineFeed ∷ [])
-  feed-room second = room-then second (room-then first room)
+module _ {w : List ℕ} {a : ℕ} (key value : List ℕ) where
+  pub feed-room : PutFits w a (lineOf key value) → a + (∣ key ++ value ∣ + 1) ≤ ∣ w ∣
+  feed-room room = let parts = simp length-append at (room .fits) in simp length-append (omega arith)
+
+  pub feed-put : {w₁ w₂ : List ℕ} {b c : ℕ}
+      → Put w a (key ++ value) w₁ b → Put w₁ b (lineFeed ∷ []) w₂ c → Put w a (lineOf key value) w₂ c
+  feed-put first second = put-as (sym (append-assoc key value (lineFeed ∷ []))) (both first second)
+
+-- With a line feed behind it, what is put is one byte longer.
+pub with-feed : {w x w′ : List ℕ} {a b : ℕ} → Put w a x w′ b → ∣ x ++ (lineFeed ∷ []) ∣ ≡ ∣ x ∣ + 1
+with-feed {x = x} p = length-append x (lineFeed ∷ [])
 
 -- What is put from the front on stands over the buffer.
 pub put-over : {w x w′ : List ℕ} {n : ℕ} → Put w 0 x w′ n → w′ ≡ over x w

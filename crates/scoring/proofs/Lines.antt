@@ -45,7 +45,7 @@ module _ {i at : ℕ} {pages answers out : List ℕ} (h : Request i at pages ans
       requestLine number (getD pages i 0) (word kind) (word evicted) (word list) (word moves)
 
   its-line : {number kind evicted list moves : ℕ} → AnswerPlaces i number kind evicted list moves
-      → written number kind evicted list moves ≡ ledgerLine (i + 1) (getD pages i 0) (drop (4 * i) answers)
+      → ledgerLine (i + 1) (getD pages i 0) (drop (4 * i) answers) ≡ written number kind evicted list moves
   its-line p = simp (p .number-is, p .kind-at, p .evicted-at, p .list-at, p .moves-at, getD-drop, add-zero)
 
   -- As many bytes as the code lends, from the place on to the place and 256.

@@ -1,15 +1,16 @@
 -- The digits before the last are put first, by the same function at a tenth of the number; then the last one.
 use borrow.Author.Needs.{needs}
-use mathlib.Core.Path.{sym, ap, _∙_}
-use mathlib.Core.List.{[], _∷_, _++_}
-use Prim.Native.Nat.{ℕ, _<_, _/_}
+use mathlib.Core.Path.{ap}
+use mathlib.Core.List.{[], _∷_}
+use Prim.Native.Nat.{ℕ, _+_, _≤_, _<_, _/_}
 use native.Mathlib.Omega.{arith}
 use lib.ListN.{length}
 use borrow.Fn.Kinds.{In}
 use borrow.Fn.PlainCycle.{Measures, is, falls, and}
+use Rattle.terms.specs.Choice.{∣_∣}
 use Rattle.sheets.specs.Result.{lastDigit, decimal}
 use Rattle.sheets.proofs.Numbers.{decimal-one, decimal-more}
-use Rattle.result.proofs.Putting.{both, put-as, room-as, room-first, room-then}
+use Rattle.result.proofs.Putting.{both, put-as, room-as, room-both}
 use Rattle.result.proofs.put_number.Reads as put-number
 use Rattle.result.proofs.put_number.Kinds as put-number-kinds
 use Rattle.result.proofs.+put_number.Lts-put_number as put-number-lts
@@ -48,39 +49,38 @@ module _ (t : ℕ) where
       → put-number-lts.After-put-number (calls t) (put-number-at t) put-number.Post
   after-put-number c = c .before .before .before .before
 
+  abbrev one-digit : put-number-lts.After-last-digit (calls t) (put-number-at t) put-number.Post
+      → put-number-lts.Start (calls t) (put-number-at t) put-number.Post
+  one-digit c = c .before .before .before .before
+
+  -- Room for a number of several digits is room for those before the last, and for the last.
+  parts-room : (c : put-number-lts.Start (calls t) (put-number-at t) put-number.Post) → 10 ≤ c .args .n
+      → c .args .at + (∣ decimal (c .args .n / 10) ∣ + 1) ≤ ∣ c .args .out .now ∣
+  parts-room c several =
+      let n = c .args .n in
+      room-both (decimal (n / 10)) (lastDigit n ∷ []) (room-as (decimal-more n several (omega arith)) (c .pre .1))
+
   put-byte-requires : put-number-lts.Need-put-byte-requires (calls t) (put-number-at t) put-number.Post
-  put-byte-requires c κs =
-      let n = c .before .before .before .before .args .n in
-      omega (arith, ap length (decimal-one n (omega arith)))
+  put-byte-requires c κs = omega (arith, ap length (decimal-one (one-digit c .args .n) (omega arith)))
 
   returns : put-number-lts.Need-returns (calls t) (put-number-at t) put-number.Post
   returns c =
       let l = c .before .before .before in
-      let n = l .before .before .before .before .args .n in
-      put-as (ap (λ (d : ℕ). d ∷ []) (l .last-digit .ensures) ∙ sym (decimal-one n (omega arith)))
-      (c .before .before .put-byte .ensures)
+      put-as (decimal-one (one-digit l .args .n) (omega arith))
+      (rw (l .last-digit .ensures) at (c .before .before .put-byte .ensures))
 
   put-number-requires : put-number-lts.Need-put-number-requires (calls t) (put-number-at t) put-number.Post
-  put-number-requires c κs =
-      let s = c .before .before .before in
-      let more = decimal-more (s .args .n) (omega arith) (omega arith) in
-      (omega arith, room-first (decimal (s .args .n / 10)) (lastDigit (s .args .n) ∷ []) (room-as more (s .pre .1)))
+  put-number-requires c κs = omega (arith, parts-room (c .before .before .before) (omega arith))
 
   put-byte-requires-2 : put-number-lts.Need-put-byte-requires-2 (calls t) (put-number-at t) put-number.Post
-  put-byte-requires-2 c κs =
-      let p = after-put-number c in
-      let s = at-start p in
-      let more = decimal-more (s .args .n) (omega arith) (omega arith) in
-      record { fits = room-then (p .put-number .ensures) (room-as more (s .pre .1)) .fits }
+  put-byte-requires-2 c κs = omega (arith, parts-room (at-start (after-put-number c)) (omega arith))
 
   returns-2 : put-number-lts.Need-returns-2 (calls t) (put-number-at t) put-number.Post
   returns-2 c =
       let l = c .before .before .before in
       let p = after-put-number l in
-      let n = at-start p .args .n in
-      let last = ap (λ (d : ℕ). decimal (n / 10) ++ (d ∷ [])) (l .last-digit2 .ensures) in
-      put-as (last ∙ sym (decimal-more n (omega arith) (omega arith)))
-      (both (p .put-number .ensures) (c .before .before .put-byte2 .ensures))
+      put-as (decimal-more (at-start p .args .n) (omega arith) (omega arith))
+      (both (p .put-number .ensures) (rw (l .last-digit2 .ensures) at (c .before .before .put-byte2 .ensures)))
 
 pub +put-number-spec : {M : Type 1} → statement M
 +put-number-spec =

@@ -4,6 +4,7 @@ use mathlib.Core.Bool.{Bool, true, false, not}
 use native.Mathlib.Omega.{arith}
 use borrow.Author.Needs.{needs}
 use borrow.Author.Tests.{not-true, not-false}
+use Rattle.terms.specs.Policies.{knownPolicy}
 use Rattle.sheets.proofs.Lengths.{result-fits}
 use Rattle.result.specs.Promises.{defined}
 use Rattle.result.proofs.Refused.{sheet-policy, sheet-short, sheet-written}
@@ -14,36 +15,33 @@ use Rattle.result.proofs.write.Tie as tie
 abbrev at-start : tie.Else1 → tie.Start
 at-start c = c .before .before .before
 
-abbrev in-else2 : tie.After-slice-known2 → tie.Else2
-in-else2 c = c .before .before .before .before
+abbrev long-enough : tie.After-slice-known2 → tie.Else2
+long-enough c = c .before .before .before .before
 
 -- What `!answer` tells of the test that was answered.
 unknown : {answer test : Bool} → answer ≡ test → not answer ≡ true → test ≡ false
 unknown said taken = sym said ∙ not-true _ taken
+
+known : (c : tie.Else1) → knownPolicy (at-start c .args .outcome .policy) ≡ true
+known c = let k = c .before .known-policy in sym (k .ensures) ∙ not-false (k .result) (c .if1 .left)
 
 returns : tie.Need-returns
 returns c = sheet-policy _ _ (search unknown)
 
 returns-2 : tie.Need-returns-2
 returns-2 c =
-    let k = c .before .before .known-policy in
     let a = at-start (c .before) .args in
-    let known = sym (k .ensures) ∙ not-false (k .result) (c .before .if1 .left) in
-    sheet-short (a .outcome) (a .out .now) known (c .if2 .taken)
+    sheet-short (a .outcome) (a .out .now) (known (c .before)) (c .if2 .taken)
 
 put-sheet-requires : tie.Need-put-sheet-requires
 put-sheet-requires c κs =
-    let s = at-start (c .before .before) in
-    let most = result-fits (defined (s .args .outcome)) (omega arith) in
-    omega arith
+    omega (arith, result-fits (defined (at-start (c .before .before) .args .outcome)) (omega arith))
 
 returns-3 : tie.Need-returns-3
 returns-3 c =
-    let e = in-else2 c in
-    let k = e .before .before .known-policy in
+    let e = long-enough c in
     let a = at-start (e .before) .args in
-    let known = sym (k .ensures) ∙ not-false (k .result) (e .before .if1 .left) in
-    sheet-written (a .outcome) (a .out .now) known (e .if2 .left) (c .before .before .put-sheet .ensures)
+    sheet-written (a .outcome) (a .out .now) (known (e .before)) (e .if2 .left) (c .before .before .put-sheet .ensures)
 
 pub write-spec : {M : Type 1} → statement M
 write-spec =

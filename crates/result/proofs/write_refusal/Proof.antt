@@ -1,8 +1,10 @@
 -- Two lines of at most 19 and 16 bytes, one after the other.
 use borrow.Author.Needs.{needs}
+use Prim.Native.Nat.{_+_, _≤_}
 use native.Mathlib.Omega.{arith}
+use Rattle.terms.specs.Choice.{∣_∣}
 use Rattle.text.specs.Text.{bytes}
-use Rattle.sheets.specs.Result.{refusedSheet}
+use Rattle.sheets.specs.Result.{decimal, lineOf, refusedSheet}
 use Rattle.sheets.proofs.Lengths.{count-length}
 use Rattle.result.proofs.Putting.{both}
 use Rattle.result.proofs.Refused.{text-short, text-written}
@@ -16,22 +18,17 @@ at-start c = c .before .before .before .before
 abbrev after-refused : tie.After-put-line-arg4 → tie.After-put-line
 after-refused c = c .before .before .before .before
 
+both-fit : (s : tie.Start) → let a = s .args in
+    ∣ lineOf (bytes "refused=") (decimal (a .number)) ∣ + ∣ lineOf (bytes "line=") (decimal (a .line)) ∣ ≤ 35
+both-fit s =
+    let first = count-length (bytes "refused=") (s .args .number) (omega arith) in
+    let second = count-length (bytes "line=") (s .args .line) (omega arith) in
+    omega arith
+
 returns : tie.Need-returns
 returns c =
     let a = c .before .before .args in
     text-short (refusedSheet (a .number) (a .line)) (a .out .now) (c .if1 .taken)
-
-put-line-requires : tie.Need-put-line-requires
-put-line-requires c κs =
-    let s = at-start c in
-    omega (arith, count-length (bytes "refused=") (s .args .number) (omega arith))
-
-put-line-requires-2 : tie.Need-put-line-requires-2
-put-line-requires-2 c κs =
-    let s = at-start (after-refused c .before) in
-    let first = count-length (bytes "refused=") (s .args .number) (omega arith) in
-    let second = count-length (bytes "line=") (s .args .line) (omega arith) in
-    omega arith
 
 returns-2 : tie.Need-returns-2
 unfolding refusedSheet
@@ -48,8 +45,8 @@ write-refusal-spec =
     (tie.spec
     returns
     (λ c. search needs)
-    put-line-requires
+    (λ c κs. omega (arith, both-fit (at-start c)))
     (λ c. search needs)
-    put-line-requires-2
+    (λ c κs. omega (arith, both-fit (at-start (after-refused c .before))))
     (λ c. search needs)
     returns-2)
