@@ -29,10 +29,10 @@ use Rattle.entries.proofs.Moving.{LaidBehind, moved-on, moved-back, add
 use Rattle.entries.proofs.Moving.{Parts, parts, no-length-set, one-length-set, two-lengths-set}
 
 -- The head of list i, as e′, at the tail of list j.
-module _ (i j : ℕ) (d : Directory) (e e′ : Entry) (es : List Entry) (w L : List ℕ) (v : ℕ)
+module _ {i j : ℕ} (d : Directory) {e : Entry} (e′ : Entry) {es : List Entry} {w L : List ℕ} {v : ℕ}
     (low : i ≤ 1) (order : i ≤ j) (high : j ≤ 3)
     (is : Holds d w) (front : listOf (nameOf i) d ≡ e ∷ es) (page : e′ .page ≡ e .page) (new : v ≡ flags e′)
-    (s z : ℕ) (start : s ≡ startOf i w) (end : z ≡ startOf (j + 1) w) (does : ToEnd s z v w L) where
+    {s z : ℕ} (start : s ≡ startOf i w) (end : z ≡ startOf (j + 1) w) (does : ToEnd s z v w L) where
   abbrev without-head : Directory
   without-head = withList (nameOf i) es d
 
@@ -97,10 +97,10 @@ module _ (i j : ℕ) (d : Directory) (e e′ : Entry) (es : List Entry) (w L : L
       no-length-set d with-tail L turned (lengths ∙ rw (n, own) back)
 
 -- The first entry for page x of list b, as e′, at the tail of list t.
-module _ (t b k : ℕ) (d : Directory) (e′ : Entry) (w L : List ℕ) (x v : ℕ) (low : t ≤ 1) (late : 2 ≤ b) (high : b ≤ 3)
+module _ {t b k : ℕ} (d : Directory) (e′ : Entry) {w L : List ℕ} {x v : ℕ} (low : t ≤ 1) (late : 2 ≤ b) (high : b ≤ 3)
     (is : Holds d w) (within : k < getD w (4 + b) 0) (here : k ≡ index x (listOf (nameOf b) d))
     (page : e′ .page ≡ x) (new : v ≡ flags e′)
-    (s z : ℕ) (start : s ≡ startOf (t + 1) w) (end : z ≡ startOf b w + 2 * k + 2) (does : PutIn s z x v w L) where
+    {s z : ℕ} (start : s ≡ startOf (t + 1) w) (end : z ≡ startOf b w + 2 * k + 2) (does : PutIn s z x v w L) where
   abbrev history : List Entry
   history = listOf (nameOf b) d
 
@@ -158,8 +158,8 @@ module _ (t b k : ℕ) (d : Directory) (e′ : Entry) (w L : List ℕ) (x v : �
   page-to-tail = two-lengths-set d come-back L brought t b _ _ (omega arith) high lengths-there
 
 -- A new page at the tail of T1.
-module _ (d : Directory) (x : ℕ) (w L : List ℕ) (is : Holds d w) (room : startOf 4 w + 2 ≤ length w)
-    (s z : ℕ) (start : s ≡ startOf 1 w) (end : z ≡ startOf 4 w + 2) (does : PutIn s z x 0 w L) where
+module _ (d : Directory) {x : ℕ} {w L : List ℕ} (is : Holds d w) (room : startOf 4 w + 2 ≤ length w)
+    {s z : ℕ} (start : s ≡ startOf 1 w) (end : z ≡ startOf 4 w + 2) (does : PutIn s z x 0 w L) where
   pub new-at-tail : Holds (placeNew x d) (set L 4 (getD w 4 0 + 1))
   unfolding placeNew
   new-at-tail =
@@ -175,9 +175,9 @@ module _ (d : Directory) (x : ℕ) (w L : List ℕ) (is : Holds d w) (room : sta
       one-length-set d d′ L laid 0 _ (omega arith) (rw n)
 
 -- List b without its head.
-module _ (b : ℕ) (d : Directory) (w L : List ℕ) (high : b ≤ 3) (is : Holds d w) (some : 1 ≤ getD w (4 + b) 0)
+module _ {b : ℕ} (d : Directory) {w L : List ℕ} (high : b ≤ 3) (is : Holds d w) (some : 1 ≤ getD w (4 + b) 0)
     (fits : cached d + remembered d ≤ 2 * d .c)
-    (s z : ℕ) (start : s ≡ startOf b w) (end : z ≡ startOf 4 w) (does : TakenOut s z w L) where
+    {s z : ℕ} (start : s ≡ startOf b w) (end : z ≡ startOf 4 w) (does : TakenOut s z w L) where
   abbrev list : List Entry
   list = listOf (nameOf b) d
 
@@ -214,7 +214,7 @@ module _ (b : ℕ) (d : Directory) (w L : List ℕ) (high : b ≤ 3) (is : Holds
       one-length-set d shorter L left b _ high (heads-with b _ d high ∙ rw n)
 
 -- The head of T2, its bit cleared, at the tail of T1.
-module _ (d : Directory) (w : List ℕ) (at v : ℕ) (is : Holds d w) (some : 1 ≤ getD w 5 0)
+module _ (d : Directory) {w : List ℕ} {at v : ℕ} (is : Holds d w) (some : 1 ≤ getD w 5 0)
     (here : at ≡ 9 + 2 * getD w 4 0) (new : Becomes cleared (getD w at 0) v) where
   pub border-moved : Holds (headTo T2 T1 cleared d) (set (set (set w at v) 4 (getD w 4 0 + 1)) 5 (getD w 5 0 - 1))
   border-moved =
@@ -256,7 +256,7 @@ module _ (d : Directory) (x : ℕ) where
   hit-size : hit x d .c ≡ d .c
   hit-size = ap (λ (l : List ℕ). getD l 1 0) hit-heads
 
-  module _ (k v : ℕ) (w : List ℕ) (is : Holds d w) (within : k < getD w 4 0 + getD w 5 0)
+  module _ {k v : ℕ} {w : List ℕ} (is : Holds d w) (within : k < getD w 4 0 + getD w 5 0)
       (here : k ≡ index x (d .t1 ++ d .t2)) (new : Becomes marked (getD w (8 + 2 * k + 1) 0) v) where
     cache : Around x (d .t1 ++ d .t2)
     cache =

@@ -19,12 +19,12 @@ use Rattle.entries.specs.Leaves.{HeadMoved}
 use Rattle.entries.specs.Stretches.{Room, nameOf, startOf}
 use Rattle.entries.proofs.Laid.{length-of-list}
 use Rattle.entries.proofs.Reading.{Held, EntryAt, list-held, entry-at}
-use Rattle.entries.proofs.Starts.{start-of-next, starts-within}
+use Rattle.entries.proofs.Starts.{list-within}
 
 -- List i, which is not empty, starts at word `at`.
 module _ {i at : ℕ} {w : List ℕ} (known : i ≤ 3) (some : 1 ≤ getD w (4 + i) 0) (start : at ≡ startOf i w) where
   pub head-inside : Room w → at + 2 ≤ ∣ w ∣
-  head-inside room = omega (arith, room, start-of-next w i known, starts-within w (i + 1))
+  head-inside room = omega (arith, room, list-within w i known)
 
   module _ (d : Directory) (is : Holds d w) where
     abbrev list : List Entry

@@ -11,7 +11,7 @@ use Rattle.figures.specs.Entry.{Entry, has, differ, total}
 use Rattle.figures.specs.Directory.{Directory, listOf}
 use Rattle.entries.specs.Holds.{Holds}
 use Rattle.entries.specs.Flags.{Says, ofFlag}
-use Rattle.entries.specs.Leaves.{OfEntries, FoundIn}
+use Rattle.entries.specs.Leaves.{FoundAt, FoundIn}
 use Rattle.entries.specs.Stretches.{nameOf, startOf, index}
 use Rattle.entries.proofs.Laid.{length-of-list}
 use Rattle.entries.proofs.Reading.{Held, held-from, EntryAt, entry-at, told, list-held}
@@ -24,13 +24,9 @@ module _ {w : List ℕ} {a : ℕ} {l : List Entry} {i : ℕ} (s : EntryAt w a l 
   pub index-later : (getD w (a + 2 * i) 0 ≡ x → ⊥) → index x (drop i l) ≡ suc (index x (drop (i + 1) l))
   index-later not = rw (s .front, ne-eqb (s .here .page) x (λ is. not (s .page-word ∙ is)))
 
--- Page x stands at k among the n entries from word a on, as `find` says.
-abbrev pub IndexFound : List ℕ → ℕ → ℕ → ℕ → ℕ → Type 0
-IndexFound w a n x k = OfEntries w a n (λ l. k ≡ index x l)
-
 -- the page of entry i, looked for among the later entries
 module _ {w : List ℕ} {a n i k : ℕ} {l : List Entry} (h : Held w a l) (many : length l ≡ n) (inside : i < n)
-    (found : IndexFound w (a + 2 * i + 2) (n - i - 1) (getD w (a + 2 * i) 0) k) where
+    (found : FoundAt w (a + 2 * i + 2) (n - i - 1) (getD w (a + 2 * i) 0) k) where
   abbrev s : EntryAt w a l i
   s = entry-at h i (omega arith)
 
@@ -42,7 +38,7 @@ module _ {w : List ℕ} {a n i k : ℕ} {l : List Entry} (h : Held w a l) (many 
 
   place : k ≡ index (s .here .page) later
   place =
-      told (held-from h (i + 1) (omega arith)) found (omega arith) length-later
+      told (held-from h (i + 1) (omega arith)) (found .1) (omega arith) length-later
       ∙ ap (λ (x : ℕ). index x later) (s .page-word)
 
   pub differ-not : k < n - i - 1 → differ (drop i l) ≡ false
@@ -58,10 +54,10 @@ pub count-more : {w : List ℕ} {a : ℕ} {l : List Entry} {i : ℕ} → EntryAt
 count-more s flag says = rw (s .front, says (s .here) (s .flags-word))
 
 -- What `find` says where list i of a directory is searched.
-module _ (d : Directory) (w : List ℕ) (is : Holds d w) (i : ℕ) (named : i ≤ 3) (a n x k : ℕ)
-    (found : IndexFound w a n x k) (start : a ≡ startOf i w) (size : n ≡ getD w (4 + i) 0) where
+module _ (d : Directory) (w : List ℕ) (is : Holds d w) (i : ℕ) (named : i ≤ 3) {a n x k : ℕ}
+    (found : FoundAt w a n x k) (start : a ≡ startOf i w) (size : n ≡ getD w (4 + i) 0) where
   pub found-index : k ≡ index x (listOf (nameOf i) d)
-  found-index = told (list-held d w is i named) found (sym start) (sym (length-of-list i d w is named) ∙ sym size)
+  found-index = told (list-held d w is i named) (found .1) (sym start) (sym (length-of-list i d w is named) ∙ sym size)
 
 -- What lists::find says of list i.
 module _ (d : Directory) (w : List ℕ) (is : Holds d w) (i : ℕ) (named : i ≤ 3) (x k : ℕ) (found : FoundIn i x w k) where

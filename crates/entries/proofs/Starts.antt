@@ -43,5 +43,5 @@ module _ (w : List ℕ) where
   pub starts-within : (i : ℕ) → startOf i w ≤ 8 + used w
   starts-within i = omega (arith, grows-by i 4, start-of-rest (i + 4) (omega arith))
 
-  pub length-within : (i : ℕ) → i ≤ 3 → 2 * getD w (4 + i) 0 ≤ used w
-  length-within i h = omega (arith, start-of-next i h, starts-in-order 0 i (omega arith), starts-within (i + 1))
+  pub list-within : (i : ℕ) → i ≤ 3 → startOf i w + 2 * getD w (4 + i) 0 ≤ 8 + used w
+  list-within i h = omega (arith, start-of-next i h, starts-within (i + 1))

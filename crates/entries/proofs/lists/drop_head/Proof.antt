@@ -1,24 +1,30 @@
 -- What `take_out` takes out is the head of list b, and the two zeros that it leaves are the words of one entry less.
 use borrow.Author.Needs.{needs}
-use Prim.Native.Nat.{_+_}
 use native.Mathlib.Omega.{arith}
-use Rattle.entries.proofs.Starts.{start-of-next, starts-within}
+use Rattle.entries.proofs.Starts.{list-within}
 use Rattle.entries.proofs.Changes.{head-dropped}
 use Rattle.entries.proofs.lists.drop_head.Statement.{statement}
 use Rattle.entries.proofs.lists.drop_head.Tie as tie
 
+-- The places that are looked back to.
+abbrev at-start : tie.After-start-of → tie.Start
+at-start c = c .before .before .before
+
+abbrev after-start-of : tie.After-take-out-arg → tie.After-start-of
+after-start-of c = c .before .before .before .before
+
 take-out-requires : tie.Need-take-out-requires
 take-out-requires c κs =
-    let a = c .before .before .before .before .before .before .before .args in
-    omega (arith, start-of-next (a .dir .now) (a .b) (omega arith), starts-within (a .dir .now) (a .b + 1))
+    let a = at-start (after-start-of c) .args in
+    omega (arith, list-within (a .dir .now) (a .b) (omega arith))
 
 returns : tie.Need-returns
 returns c d is fits =
-    let e = c .before .before .before .before .before in
-    let a = e .before .before in
-    let s = a .before .before .before in
-    head-dropped (s .args .b) d (s .args .dir .now) _ (s .pre .1 .1) is (s .pre .1 .2) fits _ _
-    (a .start-of .ensures) (e .start-of2 .ensures) (c .before .before .take-out .ensures)
+    let out = c .before .before in
+    let b = after-start-of (out .before) in
+    let h = at-start b .pre .1 in
+    head-dropped d (h .1) is (h .2) fits
+    (b .start-of .ensures) (out .before .before .before .start-of2 .ensures) (out .take-out .ensures)
 
 pub drop-head-spec : {M : Type 1} → statement M
 drop-head-spec =

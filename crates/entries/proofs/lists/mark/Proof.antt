@@ -7,7 +7,7 @@ use Rattle.entries.proofs.lists.mark.Tie as tie
 returns : tie.Need-returns
 returns c d x is here =
     let s = c .before .before .before in
-    bit-set d x (s .args .k) _ (s .args .dir .now) is (s .pre .1) here (c .marked .ensures)
+    bit-set d x is (s .pre .1) here (c .marked .ensures)
 
 pub mark-spec : {M : Type 1} → statement M
 mark-spec =

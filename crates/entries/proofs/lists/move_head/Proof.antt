@@ -4,7 +4,7 @@ use borrow.Author.Needs.{needs}
 use Prim.Native.Nat.{_+_}
 use native.Mathlib.Omega.{arith}
 use lib.ListN.{length-set}
-use Rattle.entries.proofs.Starts.{start-of-next, starts-in-order, starts-within, length-within}
+use Rattle.entries.proofs.Starts.{start-of-next, starts-in-order, starts-within, list-within}
 use Rattle.entries.proofs.Changes.{head-to-other-tail, head-to-own-tail}
 use Rattle.entries.proofs.lists.move_head.Statement.{statement}
 use Rattle.entries.proofs.lists.move_head.Tie as tie
@@ -13,46 +13,42 @@ use Rattle.entries.proofs.lists.move_head.Tie as tie
 abbrev at-start : tie.After-start-of → tie.Start
 at-start c = c .before .before .before
 
-abbrev after-start-of : tie.After-to-end-arg → tie.After-start-of
-after-start-of c = c .before .before .before .before .before
+abbrev after-start-of2 : tie.After-to-end-arg → tie.After-start-of2
+after-start-of2 c = c .before .before .before
 
 abbrev after-to-end : tie.After-slice-known4 → tie.After-to-end
 after-to-end c = c .before .before
 
-abbrev after-start-of2 : tie.After-slice-known4 → tie.After-start-of2
-after-start-of2 c = after-to-end c .before .before .before .before
-
 to-end-requires : tie.Need-to-end-requires
 to-end-requires c κs =
-    let a = at-start (after-start-of c) .args in
+    let a = at-start (after-start-of2 c .before .before) .args in
     let w = a .dir .now in
     let order = starts-in-order w (a .i + 1) (a .j + 1) (omega arith) in
     omega (arith, start-of-next w (a .i) (omega arith), starts-within w (a .j + 1))
 
-add-dir-2 : tie.Need-add-dir-2
-add-dir-2 c =
-    let a = at-start (after-start-of2 (c .before) .before .before) .args in
-    omega (arith, length-within (a .dir .now) (a .j) (omega arith))
+-- List j lies within the words in use, and one more is a word.
+length-j : tie.Need-add-dir-2
+length-j c =
+    let a = at-start (after-start-of2 (after-to-end (c .before) .before) .before .before) .args in
+    omega (arith, list-within (a .dir .now) (a .j) (omega arith))
 
 returns : tie.Need-returns
 returns c d e e′ es is front page new =
-    let z = after-start-of2 (c .before) in
+    let t = after-to-end (c .before) in
+    let z = after-start-of2 (t .before) in
     let a = z .before .before in
-    let s = at-start a in
-    let x = s .args in
-    let h = s .pre .1 in
-    head-to-other-tail (x .i) (x .j) d e e′ es (x .dir .now) _ (x .flags) (h .0) (h .1) (h .2) is front page new _ _
-    (a .start-of .ensures) (z .start-of2 .ensures) (after-to-end (c .before) .to-end .ensures) (c .if1 .taken)
+    let h = at-start a .pre .1 in
+    head-to-other-tail d e′ (h .0) (h .1) (h .2) is front page new
+    (a .start-of .ensures) (z .start-of2 .ensures) (t .to-end .ensures) (c .if1 .taken)
 
 returns-2 : tie.Need-returns-2
 returns-2 c d e e′ es is front page new =
-    let z = after-start-of2 (c .before) in
+    let t = after-to-end (c .before) in
+    let z = after-start-of2 (t .before) in
     let a = z .before .before in
-    let s = at-start a in
-    let x = s .args in
-    let h = s .pre .1 in
-    head-to-own-tail (x .i) (x .j) d e e′ es (x .dir .now) _ (x .flags) (h .0) (h .1) (h .2) is front page new _ _
-    (a .start-of .ensures) (z .start-of2 .ensures) (after-to-end (c .before) .to-end .ensures) (c .if1 .left)
+    let h = at-start a .pre .1 in
+    head-to-own-tail d e′ (h .0) (h .1) (h .2) is front page new
+    (a .start-of .ensures) (z .start-of2 .ensures) (t .to-end .ensures) (c .if1 .left)
 
 pub move-head-spec : {M : Type 1} → statement M
 move-head-spec =
@@ -72,7 +68,7 @@ move-head-spec =
     (λ c. search needs)
     (λ c. search needs)
     (λ c. search needs)
-    add-dir-2
+    length-j
     (λ c. search needs)
     (λ c. search needs)
     (λ c. simp length-set (omega arith))

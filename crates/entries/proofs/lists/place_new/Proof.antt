@@ -5,12 +5,15 @@ use Rattle.entries.proofs.Changes.{new-at-tail}
 use Rattle.entries.proofs.lists.place_new.Statement.{statement}
 use Rattle.entries.proofs.lists.place_new.Tie as tie
 
+-- The places that are looked back to.
+abbrev after-start-of : tie.After-put-in → tie.After-start-of
+after-start-of c = c .before .before .before .before .before
+
 returns : tie.Need-returns
 returns c d is =
-    let a = c .before .before .before .before .before .before .before in
-    let s = a .before .before .before in
-    new-at-tail d (s .args .page) (s .args .dir .now) _ is (s .pre .1) _ _
-    (a .start-of .ensures) (omega arith) (c .before .before .put-in .ensures)
+    let put = c .before .before in
+    let a = after-start-of put in
+    new-at-tail d is (a .before .before .before .pre .1) (a .start-of .ensures) (omega arith) (put .put-in .ensures)
 
 pub place-new-spec : {M : Type 1} → statement M
 place-new-spec =

@@ -7,9 +7,7 @@ use Rattle.entries.proofs.lists.t2_head_to_t1.Statement.{statement}
 use Rattle.entries.proofs.lists.t2_head_to_t1.Tie as tie
 
 returns : tie.Need-returns
-returns c d is =
-    let w = c .before .before .before .before .before .before .args .dir .now in
-    border-moved d w _ _ is (omega arith) (omega arith) (c .cleared .ensures)
+returns c d is = border-moved d is (omega arith) (omega arith) (c .cleared .ensures)
 
 pub t2-head-to-t1-spec : {M : Type 1} → statement M
 t2-head-to-t1-spec =

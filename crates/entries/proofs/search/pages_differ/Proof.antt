@@ -24,12 +24,12 @@ returns : tie.Need-returns Inv-loop μ-loop
 returns c P R l is p q =
     let v = c .before .before .before .before .loop in
     let h = held P R is p in
-    sym (v .inv .1 l h q ∙ differ-not h q (omega arith) (c .before .find .ensures .1) (c .if1 .taken))
+    sym (v .inv .1 l h q ∙ differ-not h q (omega arith) (c .before .find .ensures) (c .if1 .taken))
 
 loop-again : tie.Need-loop-again Inv-loop μ-loop
 loop-again c =
     let v = c .before .before .before .before .loop in
-    let found = c .before .find .ensures .1 in
+    let found = c .before .find .ensures in
     (omega arith, λ l h q. v .inv .1 l h q ∙ differ-later h q (omega arith) found (c .if1 .left))
 
 returns-2 : tie.Need-returns-2 Inv-loop μ-loop
