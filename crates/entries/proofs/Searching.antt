@@ -54,13 +54,14 @@ pub count-more : {w : List ℕ} {a : ℕ} {l : List Entry} {i : ℕ} → EntryAt
 count-more s flag says = rw (s .front, says (s .here) (s .flags-word))
 
 -- What `find` says where list i of a directory is searched.
-module _ (d : Directory) (w : List ℕ) (is : Holds d w) (i : ℕ) (named : i ≤ 3) {a n x k : ℕ}
+module _ (d : Directory) {w : List ℕ} (is : Holds d w) (i : ℕ) (named : i ≤ 3) {a n x k : ℕ}
     (found : FoundAt w a n x k) (start : a ≡ startOf i w) (size : n ≡ getD w (4 + i) 0) where
   pub found-index : k ≡ index x (listOf (nameOf i) d)
   found-index = told (list-held d w is i named) (found .1) (sym start) (sym (length-of-list i d w is named) ∙ sym size)
 
 -- What lists::find says of list i.
-module _ (d : Directory) (w : List ℕ) (is : Holds d w) (i : ℕ) (named : i ≤ 3) (x k : ℕ) (found : FoundIn i x w k) where
+module _ (d : Directory) {w : List ℕ} (is : Holds d w) (i : ℕ) (named : i ≤ 3) (x : ℕ) {k : ℕ}
+    (found : FoundIn i x w k) where
   pub found-has : k < getD w (4 + i) 0 → has x (listOf (nameOf i) d) ≡ true
   found-has h = index-has x (listOf (nameOf i) d) (omega (arith, found .1 d is, length-of-list i d w is named))
 

@@ -15,7 +15,7 @@ returns : tie.Need-returns
 returns c =
     let n = c .before in
     let a = n .before .before in
-    (omega arith, λ d is. found-index d _ is _ (omega arith) (c .find .ensures) (a .start-of .ensures) (n .wide .ensures))
+    (omega arith, λ d is. found-index d is _ (omega arith) (c .find .ensures) (a .start-of .ensures) (n .wide .ensures))
 
 pub find-spec : {M : Type 1} → statement M
 find-spec =

@@ -1,6 +1,6 @@
 -- Each arm's sum is the word at which that list starts, and the last arm is taken where the number is 4 or more.
 use borrow.Author.Needs.{needs}
-use mathlib.Core.Path.{ap}
+use mathlib.Core.Path.{_≡_, ap}
 use Prim.Native.Nat.{ℕ}
 use native.Mathlib.Omega.{arith}
 use Rattle.entries.specs.Stretches.{startOf}
@@ -12,25 +12,10 @@ use Rattle.entries.proofs.lists.start_of.Tie as tie
 abbrev at-start : tie.After-wide4 → tie.Start
 at-start c = c .before .before .before .before .before .before .before .before .before
 
-returns-2 : tie.Need-returns-2
-returns-2 c =
-    let w = at-start (c .before) .args .dir .now in
-    omega (arith, ap (λ (i : ℕ). startOf i w) (c .match .keys2))
-
-returns-3 : tie.Need-returns-3
-returns-3 c =
-    let w = at-start (c .before) .args .dir .now in
-    omega (arith, ap (λ (i : ℕ). startOf i w) (c .match .keys3))
-
-returns-4 : tie.Need-returns-4
-returns-4 c =
-    let w = at-start (c .before) .args .dir .now in
-    omega (arith, ap (λ (i : ℕ). startOf i w) (c .match .keys4))
-
-returns-5 : tie.Need-returns-5
-returns-5 c =
-    let a = at-start (c .before) .args in
-    omega (arith, start-of-rest (a .dir .now) (a .i) (omega arith))
+-- An arm's number is the list's.
+start-at : (c : tie.After-wide4) (k : ℕ) → let a = at-start c .args in
+    a .i ≡ k → startOf (a .i) (a .dir .now) ≡ startOf k (a .dir .now)
+start-at c k = ap (λ (i : ℕ). startOf i (at-start c .args .dir .now))
 
 pub start-of-spec : {M : Type 1} → statement M
 start-of-spec =
@@ -59,7 +44,7 @@ start-of-spec =
     (λ c. search needs)
     (λ c. search needs)
     (λ c. search needs)
-    returns-2
-    returns-3
-    returns-4
-    returns-5)
+    (λ c. omega (arith, start-at (c .before) 1 (c .match .keys2)))
+    (λ c. omega (arith, start-at (c .before) 2 (c .match .keys3)))
+    (λ c. omega (arith, start-at (c .before) 3 (c .match .keys4)))
+    (λ c. let a = at-start (c .before) .args in omega (arith, start-of-rest (a .dir .now) (a .i) (omega arith))))

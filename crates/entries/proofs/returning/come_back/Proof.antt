@@ -18,100 +18,63 @@ use Rattle.entries.proofs.returning.come_back.Statement.{statement}
 use Rattle.entries.proofs.returning.come_back.Tie as tie
 
 -- The places that are looked back to.
-abbrev after-wide : tie.After-raised → tie.After-wide
-after-wide c = c .before .before .before
+abbrev at-start : tie.After-wide → tie.Start
+at-start c = c .before .before .before .before .before
 
-abbrev after-wide2 : tie.After-lowered → tie.After-wide2
-after-wide2 c = c .before .before .before
+abbrev in-b1 : tie.After-raised → tie.Then1
+in-b1 c = c .before .before
 
-abbrev at-start : tie.After-find → tie.Start
-at-start f = f .before .before .before
+abbrev not-in-b1 : tie.After-wide2 → tie.Else1
+not-in-b1 c = c .before .before .before .before
 
-abbrev first : tie.After-wide → tie.After-find
-first c = c .before .before
-
-abbrev second : tie.After-wide2 → tie.After-find2
-second c = c .before .before
-
-abbrev before-second : tie.After-find2 → tie.After-wide
-before-second f = f .before .before .before
+abbrev in-b2 : tie.After-lowered → tie.Then2
+in-b2 c = c .before .before
 
 -- Where the first search has found nothing, B1 lacks the page.
-lacks-b1 : (g : tie.After-find2) (d : Directory) → let a = at-start (first (before-second g)) .args in
+lacks-b1 : (c : tie.After-wide2) (d : Directory) → let a = at-start (not-in-b1 c .before) .args in
     Holds d (a .dir .now) → has (a .page) (d .b1) ≡ false
-lacks-b1 g d is =
-    let f = first (before-second g) in
-    let a = at-start f .args in
-    let nowhere = g .before .before .if1 .left in
-    found-lacks d (a .dir .now) is 2 (omega arith) (a .page) _ (f .find .ensures) (omega (arith, nowhere))
+lacks-b1 c d is =
+    let e = not-in-b1 c in
+    found-lacks d is 2 (omega arith) _ (e .before .before .before .find .ensures) (omega (arith, e .if1 .left))
 
 come-back-requires : tie.Need-come-back-requires
 come-back-requires c κs =
-    let r = c .before in
-    let f = first (after-wide r) in
-    let w = at-start f .args .dir .now in
-    let same = length-with-p w (r .raised .result) 2 in
-    (room-with-p _ (at-start f .pre .0 .room), (omega arith, omega arith, omega arith, omega arith))
-
-same-length : tie.Need-same-length
-same-length c =
-    let b = c .before .before in
-    let r = b .before .before in
-    let w = at-start (first (after-wide r)) .args .dir .now in
-    b .come-back .kept .0 ∙ length-set w 2 (r .raised .result)
+    let s = at-start (in-b1 (c .before) .before) in
+    let same = length-with-p (s .args .dir .now) (c .before .raised .result) 2 in
+    (room-with-p _ (s .pre .0 .room), (omega arith, omega arith, omega arith, omega arith))
 
 returns : tie.Need-returns
 returns c d e m n is page new b1 b2 =
     let b = c .before .before in
     let r = b .before .before in
-    let t = r .before .before in
-    let f = first (t .before) in
-    let a = at-start f .args in
-    let found = f .find .ensures in
+    let found = in-b1 r .before .before .before .find .ensures in
     let target = with-p d is (r .raised .ensures d is ∙ ap (λ (k : ℕ). raisedTarget k d) b1) in
     from-b1
-    (found-has d (a .dir .now) is 2 (omega arith) (a .page) _ found (omega arith))
+    (found-has d is 2 (omega arith) _ found (omega arith))
     (b .come-back .ensures (withP (raisedTarget m d) d) e target (found .1 d is) page new)
 
 come-back-requires-2 : tie.Need-come-back-requires-2
 come-back-requires-2 c κs =
-    let r = c .before in
-    let f = first (before-second (second (after-wide2 r))) in
-    let w = at-start f .args .dir .now in
-    let same = length-with-p w (r .lowered .result) 3 in
-    (room-with-p _ (at-start f .pre .0 .room), (omega arith, omega arith, omega arith, omega arith))
-
-same-length-2 : tie.Need-same-length-2
-same-length-2 c =
-    let b = c .before .before in
-    let r = b .before .before in
-    let w = at-start (first (before-second (second (after-wide2 r)))) .args .dir .now in
-    b .come-back2 .kept .0 ∙ length-set w 2 (r .lowered .result)
+    let s = at-start (not-in-b1 (in-b2 (c .before) .before) .before) in
+    let same = length-with-p (s .args .dir .now) (c .before .lowered .result) 3 in
+    (room-with-p _ (s .pre .0 .room), (omega arith, omega arith, omega arith, omega arith))
 
 returns-2 : tie.Need-returns-2
 returns-2 c d e m n is page new b1 b2 =
     let b = c .before .before in
     let r = b .before .before in
-    let t = r .before .before in
-    let g = second (t .before) in
-    let f = first (before-second g) in
-    let a = at-start f .args in
-    let found = g .find2 .ensures in
+    let t = in-b2 r in
+    let found = t .before .before .before .find2 .ensures in
     let target = with-p d is (r .lowered .ensures d is ∙ ap (λ (k : ℕ). loweredTarget k d) b2) in
     from-b2
-    (lacks-b1 g d is)
-    (found-has d (a .dir .now) is 3 (omega arith) (a .page) _ found (omega arith))
+    (lacks-b1 (t .before) d is)
+    (found-has d is 3 (omega arith) _ found (omega arith))
     (b .come-back2 .ensures (withP (loweredTarget n d) d) e target (found .1 d is) page new)
 
 returns-3 : tie.Need-returns-3
 returns-3 c d e m n is page new b1 b2 =
-    let g = second (c .before) in
-    let f = first (before-second g) in
-    let a = at-start f .args in
-    is-new
-    (lacks-b1 g d is)
-    (found-lacks d (a .dir .now) is 3 (omega arith) (a .page) _ (g .find2 .ensures) (omega arith))
-    refl
+    let found = c .before .before .before .find2 .ensures in
+    is-new (lacks-b1 (c .before) d is) (found-lacks d is 3 (omega arith) _ found (omega arith)) refl
 
 pub come-back-spec : {M : Type 1} → statement M
 come-back-spec =
@@ -123,7 +86,7 @@ come-back-spec =
     (λ c κs. search needs)
     (λ c. search needs)
     come-back-requires
-    same-length
+    (λ c. simp length-set at (c .before .before .come-back .kept .0))
     returns
     (λ c κs. search needs)
     (λ c. search needs)
@@ -131,7 +94,7 @@ come-back-spec =
     (λ c κs. search needs)
     (λ c. search needs)
     come-back-requires-2
-    same-length-2
+    (λ c. simp length-set at (c .before .before .come-back2 .kept .0))
     returns-2
     (λ c. search needs)
     returns-3)

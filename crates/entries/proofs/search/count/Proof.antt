@@ -20,13 +20,17 @@ Inv-loop dir a n flag sum₀ i₀ sum i =
 abbrev μ-loop : tie.MeasureT-loop
 μ-loop dir a n flag sum₀ i₀ sum i = n - i
 
+-- The places that are looked back to.
+abbrev at-loop : tie.After-counts Inv-loop μ-loop → tie.At-loop Inv-loop μ-loop
+at-loop c = c .before .before .before
+
 loop-holds : tie.Need-loop-holds Inv-loop μ-loop
 loop-holds c = (omega arith, omega arith, λ l h q. omega arith)
 
 loop-again : tie.Need-loop-again Inv-loop μ-loop
 loop-again c =
-    let v = c .before .before .before .loop in
-    let flag = c .before .before .before .before .before .args .flag in (
+    let v = at-loop c .loop in
+    let flag = at-loop c .before .before .args .flag in (
       omega arith,
       omega arith,
       λ l h q.

@@ -17,18 +17,22 @@ Inv-loop dir n i₀ i = (i ≤ n) × ((l : List Entry) → Held dir 8 l → leng
 abbrev μ-loop : tie.MeasureT-loop
 μ-loop dir n i₀ i = n - i
 
+-- The places that are looked back to.
+abbrev at-loop : tie.After-find Inv-loop μ-loop → tie.At-loop Inv-loop μ-loop
+at-loop c = c .before .before .before
+
 loop-holds : tie.Need-loop-holds Inv-loop μ-loop
 loop-holds c = (omega arith, λ l h q. refl)
 
 returns : tie.Need-returns Inv-loop μ-loop
 returns c P R l is p q =
-    let v = c .before .before .before .before .loop in
+    let v = at-loop (c .before) .loop in
     let h = held P R is p in
     sym (v .inv .1 l h q ∙ differ-not h q (omega arith) (c .before .find .ensures) (c .if1 .taken))
 
 loop-again : tie.Need-loop-again Inv-loop μ-loop
 loop-again c =
-    let v = c .before .before .before .before .loop in
+    let v = at-loop (c .before) .loop in
     let found = c .before .find .ensures in
     (omega arith, λ l h q. v .inv .1 l h q ∙ differ-later h q (omega arith) found (c .if1 .left))
 

@@ -1,10 +1,10 @@
 -- After i turns the first i words are x and the words before, and the word held is the one that follows them.
-use mathlib.Core.Path.{_≡_, refl, sym, ap, _∙_}
-use mathlib.Core.List.{List, _∷_}
-use Prim.Native.Nat.{ℕ, suc, _≤_, _-_}
+use mathlib.Core.Path.{_≡_, refl}
+use mathlib.Core.List.{_∷_}
+use Prim.Native.Nat.{suc, _≤_, _-_}
 use native.Mathlib.Numerals.{add-one}
 use native.Mathlib.Omega.{arith}
-use lib.ListN.{length, getD, set, length-set}
+use lib.ListN.{length, getD, length-set}
 use Rattle.entries.proofs.Shifts.{over, over-none, over-read, over-more, over-all}
 use Rattle.entries.proofs.stretch.shift_in.Statement.{statement}
 use Rattle.entries.proofs.stretch.shift_in.Tie as tie
@@ -34,22 +34,17 @@ loop-again c =
     let y : suc i ≤ length (x ∷ l) = omega arith in (
       omega arith,
       refl,
-      ap (λ (r : List ℕ). getD r i 0) (v .3) ∙ over-read (x ∷ l) l i y h
-          ∙ sym (ap (λ (k : ℕ). getD (x ∷ l) k 0) (add-one i)),
-      ap (λ (r : List ℕ). set r i (at-loop c .loop .held)) (v .3)
-          ∙ ap (λ (k : ℕ). set (over (x ∷ l) l i) i k) (v .2) ∙ over-more (x ∷ l) l i y h,
+      rw (v .3, add-one) (over-read (x ∷ l) l i y h),
+      cc (over-more (x ∷ l) l i y h),
       simp length-set (v .4),
     )
-
-same-length : tie.Need-same-length Inv-loop μ-loop
-same-length c = c .before .loop .inv .4
 
 returns : tie.Need-returns Inv-loop μ-loop
 returns c =
     let l = c .before .before .args .s .now in
     let x = c .before .before .args .x in
     let e : c .before .loop .i ≡ length l = omega arith in
-    c .before .loop .inv .3 ∙ ap (λ (k : ℕ). over (x ∷ l) l k) e ∙ over-all (x ∷ l) l
+    rw (c .before .loop .inv .3, e) (over-all (x ∷ l) l)
 
 pub shift-in-spec : {M : Type 1} → statement M
 shift-in-spec =
@@ -65,5 +60,5 @@ shift-in-spec =
     (λ c. omega arith)
     (λ c. omega arith)
     loop-again
-    same-length
+    (λ c. c .before .loop .inv .4)
     returns)

@@ -9,12 +9,6 @@ use Rattle.entries.proofs.targets.lowered.Tie as tie
 abbrev at-start : tie.After-shared-slice-known3 → tie.Start
 at-start c = c .before .before .before .before .before
 
-returns : tie.Need-returns
-returns c d is = omega (arith, lowered-read d is (at-start (c .before) .args .dividend))
-
-returns-2 : tie.Need-returns-2
-returns-2 c d is = omega (arith, lowered-read d is (at-start (c .before) .args .dividend))
-
 pub lowered-spec : {M : Type 1} → statement M
 lowered-spec =
     tie.close
@@ -25,5 +19,5 @@ lowered-spec =
     (λ c κs. search needs)
     (λ c. search needs)
     (λ c. search needs)
-    returns
-    returns-2)
+    (λ c d is. omega (arith, lowered-read d is (at-start (c .before) .args .dividend)))
+    (λ c d is. omega (arith, lowered-read d is (at-start (c .before) .args .dividend))))

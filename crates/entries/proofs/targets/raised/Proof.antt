@@ -5,10 +5,12 @@ use borrow.Author.Needs.{needs}
 use Rattle.entries.proofs.targets.raised.Statement.{statement}
 use Rattle.entries.proofs.targets.raised.Tie as tie
 
+-- The places that are looked back to.
+abbrev at-start : tie.After-least → tie.Start
+at-start c = c .before .before .before .before .before .before .before
+
 returns : tie.Need-returns
-returns c d is =
-    let s = c .before .before .before .before .before .before .before in
-    omega (arith, raised-read d is (s .args .dividend))
+returns c d is = omega (arith, raised-read d is (at-start c .args .dividend))
 
 pub raised-spec : {M : Type 1} → statement M
 raised-spec =
