@@ -16,6 +16,9 @@ use Rattle.soundness.proofs.car_sound.Tie as tie
 abbrev at-start : tie.After-count → tie.Start
 at-start c = c .before .before .before .before .before .before .before .before .before .before .before .before
 
+abbrev after-count : tie.After-wide5 → tie.After-count
+after-count c = c .before .before .before
+
 returns : tie.Need-returns
 unfolding carSound
 returns c = fails _ (λ h. let said = simp reads at h in c .if1 .taken (said .0))
@@ -30,8 +33,9 @@ returns-2 c = fails _ (λ h. let said = simp reads at h in c .if2 .taken (long-o
 returns-3 : tie.Need-returns-3
 unfolding carSound
 returns-3 c =
-    let no-q = c .before .before .before .before .if1 .left in
-    let none-long = sym (long-ones (c .before .before .before)) ∙ c .before .before .if2 .left in
+    let n = after-count c in
+    let no-q = n .before .if1 .left in
+    let none-long = sym (long-ones n) ∙ c .before .before .if2 .left in
     agree
     _
     _

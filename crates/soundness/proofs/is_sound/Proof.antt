@@ -2,10 +2,12 @@
 use mathlib.Core.Path.{_≡_, sym, _∙_}
 use mathlib.Core.Bool.{true}
 use mathlib.Core.List.{List}
-use Prim.Native.Nat.{ℕ}
+use Prim.Native.Nat.{ℕ, _+_, _≤_}
 use native.Mathlib.Omega.{arith}
 use borrow.Author.Tests.{not-true, not-false}
+use Rattle.terms.specs.Choice.{∣_∣}
 use Rattle.terms.proofs.Tests.{reads}
+use Rattle.figures.specs.Words.{used}
 use Rattle.soundness.specs.Orderly.{sizesFit}
 use Rattle.soundness.proofs.Tests.{denied}
 use Rattle.soundness.proofs.Rules.{flagsKnown, restZero, held}
@@ -15,14 +17,14 @@ use Rattle.soundness.proofs.is_sound.Statement.{statement}
 use Rattle.soundness.proofs.is_sound.Tie as tie
 
 -- The places that are looked back to.
-abbrev in-else1 : tie.After-wide4 → tie.Else1
-in-else1 c = c .before .before .before .before .before .before .before .before
+abbrev sizes-in-order : tie.After-wide4 → tie.Else1
+sizes-in-order c = c .before .before .before .before .before .before .before .before
 
 abbrev after-wide4 : tie.Else2 → tie.After-wide4
 after-wide4 c = c .before .before
 
-abbrev in-else2 : tie.Else3 → tie.Else2
-in-else2 c = c .before .before
+abbrev flags-in-order : tie.Else3 → tie.Else2
+flags-in-order c = c .before .before
 
 abbrev at-start : tie.After-wide4 → tie.Start
 at-start c = c .before .before .before .before .before .before .before .before .before .before .before
@@ -40,13 +42,11 @@ abbrev w : tie.After-wide4 → List ℕ
 w c = at-start c .args .dir .now
 
 sizes : (c : tie.After-wide4) → sizesFit (w c) ≡ true
-sizes c = let e = in-else1 c in sym (e .before .sizes-fit .ensures) ∙ not-false _ (e .if1 .left)
+sizes c = let e = sizes-in-order c in sym (e .before .sizes-fit .ensures) ∙ not-false _ (e .if1 .left)
 
-add-all-2 : tie.Need-add-all-2
-add-all-2 c = let said = simp reads at (sizes c) in omega arith
-
-flags-known-requires : tie.Need-flags-known-requires
-flags-known-requires c κs = let said = simp reads at (sizes c) in (omega arith, omega arith)
+-- The entries that the words state fit into them.
+within : (c : tie.After-wide4) → 8 + used (w c) ≤ ∣ w c ∣
+within c = let said = simp reads at (sizes c) in omega arith
 
 -- The code counts as many entries as the words state.
 flags-are : (c : tie.After-flags-known) → c .flags-known .result ≡ flagsKnown (w (c .before))
@@ -54,15 +54,6 @@ flags-are c = cc
 
 returns-2 : tie.Need-returns-2
 returns-2 c = denied (sound-flags _) (sym (flags-are (c .before)) ∙ not-true _ (c .if2 .taken))
-
-mul-all-zero : tie.Need-mul-all-zero
-mul-all-zero c = let said = simp reads at (sizes (after-wide4 c)) in omega arith
-
-add-all-zero : tie.Need-add-all-zero
-add-all-zero c = let said = simp reads at (sizes (after-wide4 c)) in omega arith
-
-all-zero-requires : tie.Need-all-zero-requires
-all-zero-requires c κs = let said = simp reads at (sizes (after-wide4 c)) in omega arith
 
 zeros-are : (c : tie.After-all-zero) → c .all-zero .result ≡ restZero (w (after-wide4 (c .before)))
 zeros-are c = cc
@@ -73,17 +64,17 @@ returns-3 c = denied (sound-zeros _) (sym (zeros-are (c .before)) ∙ not-true _
 flags : (c : tie.Else2) → flagsKnown (w (after-wide4 c)) ≡ true
 flags c = sym (flags-are (c .before)) ∙ not-false _ (c .if2 .left)
 
-zeros : (c : tie.Else3) → restZero (w (after-wide4 (in-else2 c))) ≡ true
+zeros : (c : tie.Else3) → restZero (w (after-wide4 (flags-in-order c))) ≡ true
 zeros c = sym (zeros-are (c .before)) ∙ not-false _ (c .if3 .left)
 
 entries-sound-requires : tie.Need-entries-sound-requires
 entries-sound-requires c κs =
-    let e = in-else2 c in
+    let e = flags-in-order c in
     held (at-start (after-wide4 e) .pre) (sizes (after-wide4 e)) (flags e) (zeros c)
 
 returns-4 : tie.Need-returns-4
 returns-4 c =
-    let e = in-else2 (c .before) in
+    let e = flags-in-order (c .before) in
     c .entries-sound .ensures
     ∙ sound-entries (at-start (after-wide4 e) .pre) (sizes (after-wide4 e)) (flags e) (zeros (c .before))
 
@@ -103,12 +94,12 @@ is-sound-spec =
     (λ c. search needs)
     (λ c κs. search needs)
     add-all
-    add-all-2
-    flags-known-requires
+    (λ c. omega (arith, within c))
+    (λ c κs. omega (arith, within c))
     returns-2
-    mul-all-zero
-    add-all-zero
-    all-zero-requires
+    (λ c. omega (arith, within (after-wide4 c)))
+    (λ c. omega (arith, within (after-wide4 c)))
+    (λ c κs. omega (arith, within (after-wide4 c)))
     returns-3
     entries-sound-requires
     returns-4)

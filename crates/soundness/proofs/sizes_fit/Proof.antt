@@ -14,15 +14,6 @@ add-cached c = let known = c .before .shared-slice-known4 .given in omega (arith
 add-remembered : tie.Need-add-remembered
 add-remembered c = let known = c .before .shared-slice-known6 .given in omega (arith, known 6, known 7)
 
-returns : tie.Need-returns
-returns c = fails _ (λ h. let said = simp reads at h in omega arith)
-
-returns-2 : tie.Need-returns-2
-returns-2 c = fails _ (λ h. let said = simp reads at h in omega arith)
-
-returns-3 : tie.Need-returns-3
-returns-3 c = fails _ (λ h. let said = simp reads at h in omega arith)
-
 returns-4 : tie.Need-returns-4
 returns-4 c =
     agree
@@ -53,8 +44,8 @@ sizes-fit-spec =
     (λ c. search needs)
     (λ c. search needs)
     (λ c. search needs)
-    returns
-    returns-2
-    returns-3
+    (λ c. fails _ (λ h. let said = simp reads at h in omega arith))
+    (λ c. fails _ (λ h. let said = simp reads at h in omega arith))
+    (λ c. fails _ (λ h. let said = simp reads at h in omega arith))
     returns-4
     returns-5)
