@@ -45,12 +45,9 @@ module _ {x : ℕ} {h : Hand} {w w₁ : List ℕ} {kind : ℕ}
       let was = was-new r is in
       rw is (placed-new Holds cartPolicy x h (was .0) (was .1) (placed (was .2)))
 
--- The words then: unchanged for a new page, and such that q may be raised for one from B2.
+-- The words then are such that q may be raised for a page from B2.
 module _ {x : ℕ} {w w₁ : List ℕ} {nS : ShortCount} {nL : LongCount} {kind : ℕ}
     (r : Returned (decode w) x (newLong x) T1 (nS .0) (nL .0) w w₁ kind) where
-  pub unchanged : kind ≡ 2 → w₁ ≡ w
-  unchanged is = was-new r is .2
-
   pub raise-ready : kind ≡ 4 → Freed w → CountsFit w nS nL → Room w₁ × Raisable w₁ (nS .0)
   raise-ready is free fit =
       let was = was-in-b2 r is in

@@ -74,8 +74,6 @@ module _ {w : List ℕ} {k : Kept} (p : Passing Holds w k) where
   passing-room = roomy (p .dir) (p .shown) (omega (arith, p .accounts)) (p .accounts .bounds .of-c .c-most)
 
   -- A list with a head has a length.
-  pub t1-some : {e : Entry} {es : List Entry} → p .dir .t1 ≡ e ∷ es → 1 ≤ nT1 w
-  t1-some front = omega (arith, passing-header, ap ∣_∣ front)
-
-  pub t2-some : {e : Entry} {es : List Entry} → p .dir .t2 ≡ e ∷ es → 1 ≤ nT2 w
-  t2-some front = omega (arith, passing-header, ap ∣_∣ front)
+  pub list-some : (i : ℕ) → i ≤ 3 → {e : Entry} {es : List Entry} → listOf (nameOf i) (p .dir) ≡ e ∷ es
+      → 1 ≤ getD w (4 + i) 0
+  list-some i known front = omega (arith, length-of-list i (p .dir) w (p .shown) known, ap ∣_∣ front)

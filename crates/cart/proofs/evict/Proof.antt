@@ -10,6 +10,7 @@ use Rattle.figures.specs.Cart.{evict}
 use Rattle.engine.proofs.Passes.{passes-end}
 use Rattle.entries.specs.Flags.{ofFlag}
 use Rattle.entries.specs.Leaves.{OfEntries}
+use Rattle.entries.specs.Stretches.{Room}
 use Rattle.entries.proofs.Rooms.{filled}
 use Rattle.cart.proofs.Words.{passing-room}
 use Rattle.cart.proofs.Evicting.{stops, begins-passing, begins-shown}
@@ -17,17 +18,17 @@ use Rattle.cart.proofs.evict.Statement.{statement}
 use Rattle.cart.proofs.evict.Tie as tie
 
 -- The places that are looked back to.
-abbrev after-slice-known : tie.After-slice-known3 → tie.After-slice-known
-after-slice-known c = c .before .before
-
 abbrev at-start : tie.After-wide → tie.Start
-at-start c = after-slice-known (c .before .before) .before
+at-start c = c .before .before .before .before .before
 
 abbrev after-first-pass : tie.After-second-pass-arg → tie.After-first-pass
 after-first-pass c = c .before .before .before
 
 abbrev after-second-pass : tie.After-demote-arg → tie.After-second-pass
 after-second-pass c = c .before .before .before
+
+room : (s : tie.Start) → Room (s .args .dir .now)
+room s = filled (s .pre) .room
 
 -- What is counted is the L pages of T1 and T2.
 counts : (c : tie.After-count) → let w = at-start (c .before) .args .dir .now in
@@ -64,11 +65,11 @@ pub evict-spec : {M : Type 1} → statement M
 evict-spec =
     tie.close
     (tie.spec
-    (λ c. omega (arith, filled (c .before .before .pre) .room))
-    (λ c. omega (arith, filled (after-slice-known c .before .pre) .room))
-    (λ c. omega (arith, filled (after-slice-known c .before .pre) .room))
+    (λ c. omega (arith, room (c .before .before)))
+    (λ c. omega (arith, room (c .before .before .before)))
+    (λ c. omega (arith, room (c .before .before .before)))
     (λ c κs. search needs)
-    (λ c κs. omega (arith, filled (at-start c .pre) .room))
+    (λ c κs. omega (arith, room (at-start c)))
     (λ c. search needs)
     first-pass-requires
     second-pass-requires

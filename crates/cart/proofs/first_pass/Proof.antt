@@ -16,7 +16,7 @@ use Rattle.engine.proofs.Looks.{Moved, first-looks, first-stops}
 use Rattle.engine.proofs.Passes.{Underway, begins, goes-on, ends-here}
 use Rattle.entries.specs.Holds.{Holds}
 use Rattle.cart.specs.Passing.{HeadFlags}
-use Rattle.cart.proofs.Words.{passing-header, passing-room, t2-some}
+use Rattle.cart.proofs.Words.{passing-header, passing-room, list-some}
 use Rattle.cart.proofs.first_pass.Statement.{statement}
 use Rattle.cart.proofs.first_pass.Tie as tie
 
@@ -29,30 +29,30 @@ abbrev μ-loop : tie.MeasureT-loop
 μ-loop dir₀ now₀ f₀ dir now f = 2048 - now .hand .moves
 
 -- The places that are looked back to.
-abbrev in-then1 : tie.After-t2-head-to-t1-arg Inv-loop μ-loop → tie.Then1 Inv-loop μ-loop
-in-then1 c = c .before .before .before
+abbrev bit-set : tie.After-t2-head-to-t1-arg Inv-loop μ-loop → tie.Then1 Inv-loop μ-loop
+bit-set c = c .before .before .before
 
 abbrev after-t2-head-to-t1 : tie.After-raise-arg Inv-loop μ-loop → tie.After-t2-head-to-t1 Inv-loop μ-loop
 after-t2-head-to-t1 c = c .before .before .before
 
 abbrev at-loop : tie.After-raise Inv-loop μ-loop → tie.At-loop Inv-loop μ-loop
-at-loop c = in-then1 (after-t2-head-to-t1 (c .before) .before) .before .before
+at-loop c = bit-set (after-t2-head-to-t1 (c .before) .before) .before .before
 
 abbrev after-raise : tie.After-struct-known2 Inv-loop μ-loop → tie.After-raise Inv-loop μ-loop
 after-raise c = c .before .before .before .before
 
 -- T2's head has its bit set.
-set : (c : tie.Then1 Inv-loop μ-loop) (d : Directory) → Holds d (c .before .before .loop .dir)
+head-set : (c : tie.Then1 Inv-loop μ-loop) (d : Directory) → Holds d (c .before .before .loop .dir)
     → frontOf (d .t2) .bit ≡ true
-set c d is = sym (c .before .bit .ensures (frontOf (d .t2)) (c .before .before .loop .inv .2 d is)) ∙ c .if1 .taken
+head-set c d is = sym (c .before .bit .ensures (frontOf (d .t2)) (c .before .before .loop .inv .2 d is)) ∙ c .if1 .taken
 
 -- A turn of the loop is one look: the move of T2's head to T1's tail, and then "raise q".
-moved : (c : tie.After-t2-head-to-t1 Inv-loop μ-loop) → let l = in-then1 (c .before) .before .before .loop in
+moved : (c : tie.After-t2-head-to-t1 Inv-loop μ-loop) → let l = bit-set (c .before) .before .before .loop in
     Moved Holds Cart.firstLook (Cart.raise (l .now .short .0)) (l .dir) (l .now) (c .t2-head-to-t1 .last .0)
     (afterMove (l .now .short) (l .now .long) (l .now .hand .cleared + 1) (l .now))
 moved c =
-    let t = in-then1 (c .before) in
-    first-looks (t .before .before .loop .inv .0) (set t) (c .t2-head-to-t1 .ensures)
+    let t = bit-set (c .before) in
+    first-looks (t .before .before .loop .inv .0) (head-set t) (c .t2-head-to-t1 .ensures)
 
 looked : (c : tie.After-raise Inv-loop μ-loop)
     → let l = at-loop c .loop in
@@ -65,9 +65,9 @@ loop-holds c = (c .before .before .before .pre .1, begins, c .head-flags .ensure
 
 t2-head-to-t1-requires : tie.Need-t2-head-to-t1-requires Inv-loop μ-loop
 t2-head-to-t1-requires c κs =
-    let t = in-then1 c in
+    let t = bit-set c in
     let p = t .before .before .loop .inv .0 in
-    (passing-room p, t2-some p (set-front _ (set t (p .dir) (p .shown))))
+    (passing-room p, list-some p 1 (omega arith) (set-front _ (head-set t (p .dir) (p .shown))))
 
 raise-requires : tie.Need-raise-requires Inv-loop μ-loop
 raise-requires c κs =

@@ -7,10 +7,11 @@ use Rattle.figures.specs.Directory.{T1}
 use Rattle.figures.specs.Words.{decode}
 use Rattle.figures.specs.Cart as Cart
 use Rattle.entries.specs.Returning.{Freed, Returned}
+use Rattle.entries.proofs.ComingBack.{was-new}
 use Rattle.entries.proofs.Laid.{header}
 use Rattle.entries.proofs.Rooms.{room-for-new}
 use Rattle.cart.proofs.Trimming.{trim-fits}
-use Rattle.cart.proofs.Placed.{from-B1, from-B2, new-page, unchanged, raise-ready}
+use Rattle.cart.proofs.Placed.{from-B1, from-B2, new-page, raise-ready}
 use Rattle.cart.proofs.place.Statement.{statement}
 use Rattle.cart.proofs.place.Tie as tie
 
@@ -50,7 +51,7 @@ trim-requires : tie.Need-trim-requires
 trim-requires c κs =
     let t = c .before in
     let b = after-come-back (t .before .before) in
-    subst Freed (sym (unchanged (returned b) (t .if2 .taken))) (at-start b .pre .0)
+    subst Freed (sym (was-new (returned b) (t .if2 .taken) .2)) (at-start b .pre .0)
 
 place-new-requires : tie.Need-place-new-requires
 place-new-requires c κs =
@@ -60,7 +61,7 @@ place-new-requires c κs =
     let w = at-start b .args .dir .now in
     let d = decode w in
     let h = header d w (f .is) in
-    let same = unchanged (returned b) (t .if2 .taken) in
+    let same = was-new (returned b) (t .if2 .taken) .2 in
     room-for-new d (Cart.trim d) (after-trim c .trim .ensures d (f .is ∙ sym same))
     (trim-fits d (omega (arith, f .one-free)) (omega (arith, f .history-most))) (omega (arith, f .bounds))
 

@@ -7,9 +7,13 @@ use Rattle.cart.proofs.Trimming.{has-head, head-dropped, not-dropped}
 use Rattle.cart.proofs.trim.Statement.{statement}
 use Rattle.cart.proofs.trim.Tie as tie
 
+-- The places that are looked back to.
+abbrev at-start : tie.After-oldest → tie.Start
+at-start c = c .before .before .before .before .before .before .before
+
 drop-head-requires : tie.Need-drop-head-requires
 drop-head-requires c κs =
-    let s = c .before .before .before .before .before .before .before .before in
+    let s = at-start (c .before) in
     let o = c .before .oldest .ensures in
     (s .pre .room, (o .1, o .2, has-head (decode (s .args .dir .now)) _ (s .pre .is) (o .0) (o .2) (omega arith)))
 

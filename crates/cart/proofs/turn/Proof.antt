@@ -21,7 +21,7 @@ use Rattle.entries.specs.Flags.{Becomes}
 use Rattle.entries.specs.Stretches.{nameOf}
 use Rattle.entries.specs.Leaves.{HeadMoved}
 use Rattle.cart.specs.Passing.{lengthens}
-use Rattle.cart.proofs.Words.{passing-header, passing-room, t1-some}
+use Rattle.cart.proofs.Words.{passing-header, passing-room, list-some}
 use Rattle.cart.proofs.turn.Statement.{statement}
 use Rattle.cart.proofs.turn.Tie as tie
 
@@ -46,7 +46,7 @@ front : (s : tie.Start) (d : Directory) → Holds d (s .args .dir .now) → d .t
 front s d is = goes-front (d .t1) (s .pre .1 .1 .1 d is)
 
 t1-there : (s : tie.Start) → 1 ≤ nT1 (s .args .dir .now)
-t1-there s = let p = s .pre .1 .0 in t1-some p (front s (p .dir) (p .shown))
+t1-there s = let p = s .pre .1 .0 in list-some p 0 (omega arith) (front s (p .dir) (p .shown))
 
 bit-is : (c : tie.After-bit) (d : Directory) → Holds d (at-start c .args .dir .now)
     → frontOf (d .t1) .bit ≡ c .bit .result
