@@ -24,11 +24,11 @@ use Rattle.engine.specs.declared.Served.{Served as Answered}
 use Rattle.engine.specs.Shown.{Tells}
 use Rattle.entries.specs.Holds.{Holds}
 use Rattle.entries.specs.Stretches.{Room, index}
+use Rattle.entries.specs.Leaves.{FoundAt}
 use Rattle.entries.proofs.Laid.{Header, header}
 use Rattle.entries.proofs.Reading.{told, cache-held}
 use Rattle.entries.proofs.Indexes.{index-has, index-lacks, has-append}
 use Rattle.entries.proofs.Rooms.{roomy}
-use Rattle.entries.proofs.Searching.{IndexFound}
 use Rattle.directory.specs.Ready.{stillOf, evicting, Ready}
 
 pub ready : (w : List ℕ) → sound w ≡ true → Ready w
@@ -87,45 +87,46 @@ module _ {w : List ℕ} (r : Ready w) where
       ready w′ (subst (λ (l : List ℕ). sound l ≡ true) is (kept .sound-again))
 
   -- by what the request comes to
-  module _ (x : ℕ) (w′ : List ℕ) where
+  module _ (x : ℕ) where
     -- The answer tells the request, and the words may be asked again.
-    abbrev TellsRequest : Answered → Type 0
-    TellsRequest a = Tells Holds (request x d) a w′ × Ready w′
+    abbrev TellsRequest : Answered → List ℕ → Type 0
+    TellsRequest a w′ = Tells Holds (request x d) a w′ × Ready w′
 
-    tells-as : {s : Served} (a : Answered) → request x d ≡ s → Tells Holds s a w′ → TellsRequest a
-    tells-as a e told =
+    tells-as : {s : Served} {a : Answered} {w′ : List ℕ} → request x d ≡ s → Tells Holds s a w′ → TellsRequest a w′
+    tells-as {a = a} {w′ = w′} e told =
         let all = subst⁻¹ (λ (s : Served). Tells Holds s a w′) e told in (all, ready-again x w′ (all .shown))
 
-    still-told : (kind : ℕ) (d′ : Directory) → Holds d′ w′ → Tells Holds (still kind d′) (stillOf kind) w′
+    still-told : (kind : ℕ) (d′ : Directory) {w′ : List ℕ} → Holds d′ w′ → Tells Holds (still kind d′) (stillOf kind) w′
     still-told kind d′ is =
         record { kind-is = refl; page-is = refl; list-is = refl; moves-is = refl; cleared-is = refl; shown = is }
 
     -- the page's place in T1 and T2, as `find` gives it
-    module _ (n k : ℕ) (found : IndexFound w 8 n x k) (all : n ≡ nT1 w + nT2 w) where
+    module _ {n k : ℕ} (found : FoundAt w 8 n x k) (all : n ≡ nT1 w + nT2 w) where
       length-cache : ∣ d .t1 ++ d .t2 ∣ ≡ n
       length-cache = length-append (d .t1) (d .t2) ∙ omega (arith, held)
 
       pub place : k ≡ index x (d .t1 ++ d .t2)
-      place = told (cache-held d w words-held) found refl length-cache
+      place = told (cache-held d w words-held) (found .1) refl length-cache
 
-      pub tells-hit : k < n → Holds (hit x d) w′ → TellsRequest (stillOf 0)
+      pub tells-hit : {w′ : List ℕ} → k < n → Holds (hit x d) w′ → TellsRequest (stillOf 0) w′
       tells-hit inside is =
           let there = index-has x (d .t1 ++ d .t2) (omega (arith, place, length-cache)) in
           let cached = sym (has-append x (d .t1) (d .t2)) ∙ there in
           let marks = by-named (λ n. still 0 (policyOf n .hit x d) ≡ still 0 (hit x d)) refl refl in
-          tells-as (stillOf 0) (serve-hit (policyOf (d .policy)) x d cached ∙ marks) (still-told 0 (hit x d) is)
+          tells-as (serve-hit (policyOf (d .policy)) x d cached ∙ marks) (still-told 0 (hit x d) is)
 
       missed-cache : n ≤ k → has x (d .t1) || has x (d .t2) ≡ false
       missed-cache outside =
           sym (has-append x (d .t1) (d .t2)) ∙ index-lacks x (d .t1 ++ d .t2) (omega (arith, place, length-cache))
 
-      pub tells-room : n ≤ k → n < size w → Holds (placeNew x d) w′ → TellsRequest (stillOf 1)
+      pub tells-room : {w′ : List ℕ} → n ≤ k → n < size w → Holds (placeNew x d) w′ → TellsRequest (stillOf 1) w′
       tells-room outside free is =
           let room = ne-eqb (cached d) (d .c) (λ e. omega (arith, held)) in
-          tells-as (stillOf 1) (serve-room (policyOf (d .policy)) x d (missed-cache outside) room)
+          tells-as (serve-room (policyOf (d .policy)) x d (missed-cache outside) room)
           (still-told 1 (placeNew x d) is)
 
-      pub tells-full : n ≤ k → size w ≤ n → {a : Answered} → Tells Holds (evicting x d) a w′ → TellsRequest a
-      tells-full outside full {a} told =
+      pub tells-full : n ≤ k → size w ≤ n → {a : Answered} {w′ : List ℕ} → Tells Holds (evicting x d) a w′
+          → TellsRequest a w′
+      tells-full outside full told =
           let is-full = eq-eqb (cached d) (d .c) (omega (arith, held, r .cache-fits)) in
-          tells-as a (serve-full (policyOf (d .policy)) x d (missed-cache outside) is-full) told
+          tells-as (serve-full (policyOf (d .policy)) x d (missed-cache outside) is-full) told

@@ -18,14 +18,14 @@ use Rattle.directory.proofs.check.Statement.{statement}
 use Rattle.directory.proofs.check.Tie as tie
 
 -- The places that are looked back to.
-abbrev in-else1 : tie.After-known-policy → tie.Else1
-in-else1 c = c .before .before
+abbrev has-header : tie.After-known-policy → tie.Else1
+has-header c = c .before .before
 
-abbrev in-else2 : tie.After-known-size → tie.Else2
-in-else2 c = c .before .before
+abbrev policy-known : tie.After-known-size → tie.Else2
+policy-known c = c .before .before
 
-abbrev in-else3 : tie.After-wide → tie.Else3
-in-else3 c = c .before .before
+abbrev size-known : tie.After-wide → tie.Else3
+size-known c = c .before .before
 
 abbrev at-size : tie.Else4 → tie.Else3
 at-size c = c .before .before .before
@@ -39,35 +39,35 @@ returns c = check-short _ (c .if1 .taken)
 returns-2 : tie.Need-returns-2
 returns-2 c =
     let tested = c .before in
-    check-policy _ (in-else1 tested .if1 .left) (sym (tested .known-policy .ensures) ∙ not-true _ (c .if2 .taken))
+    check-policy _ (has-header tested .if1 .left) (sym (tested .known-policy .ensures) ∙ not-true _ (c .if2 .taken))
 
 abbrev w : tie.Else2 → List ℕ
 w c = c .before .before .before .before .before .args .dir .now
 
 eight : (c : tie.Else2) → 8 ≤ ∣ w c ∣
-eight c = in-else1 (c .before) .if1 .left
+eight c = has-header (c .before) .if1 .left
 
 policy : (c : tie.Else2) → knownPolicy (getD (w c) 0 0) ≡ true
 policy c = sym (c .before .known-policy .ensures) ∙ not-false _ (c .if2 .left)
 
 returns-3 : tie.Need-returns-3
 returns-3 c =
-    let e = in-else2 (c .before) in
+    let e = policy-known (c .before) in
     check-size _ (eight e) (policy e) (sym (c .before .known-size .ensures) ∙ not-true _ (c .if3 .taken))
 
-sized : (c : tie.Else3) → knownSize (size (w (in-else2 (c .before)))) ≡ true
+sized : (c : tie.Else3) → knownSize (size (w (policy-known (c .before)))) ≡ true
 sized c = sym (c .before .known-size .ensures) ∙ not-false _ (c .if3 .left)
 
 mul-if4 : tie.Need-mul-if4
-mul-if4 c = let said = simp reads at (sized (in-else3 c)) in omega arith
+mul-if4 c = let said = simp reads at (sized (size-known c)) in omega arith
 
 add-if4 : tie.Need-add-if4
-add-if4 c = let said = simp reads at (sized (in-else3 c)) in omega arith
+add-if4 c = let said = simp reads at (sized (size-known c)) in omega arith
 
 returns-4 : tie.Need-returns-4
 returns-4 c =
-    let s = in-else3 (c .before) in
-    let e = in-else2 (s .before) in
+    let s = size-known (c .before) in
+    let e = policy-known (s .before) in
     check-length _ (eight e) (policy e) (sized s) (λ is. c .if4 .taken (omega arith))
 
 exact : (c : tie.Else4) → (let w = w (at-policy c) in ∣ w ∣ ≡ 8 + 4 * size w)

@@ -1,9 +1,9 @@
 -- Every word is 0 afterwards: after i turns the words before i are, and the others are as they were.
-use mathlib.Core.Path.{_≡_, refl, ap, _∙_}
-use mathlib.Core.List.{List, _++_, append-nil}
-use Prim.Native.Nat.{ℕ, _≤_, _-_}
+use mathlib.Core.Path.{_≡_, refl, _∙_}
+use mathlib.Core.List.{_++_, append-nil}
+use Prim.Native.Nat.{_≤_, _-_}
 use native.Mathlib.Omega.{arith}
-use lib.ListN.{length, set, drop, replicate, length-set}
+use lib.ListN.{length, drop, replicate, length-set}
 use lib.Seq.{drop-length}
 use borrow.Author.Fill.{fill-none, fill-more}
 use borrow.Author.Needs.{needs}
@@ -24,12 +24,9 @@ loop-again c =
     let v = c .before .loop in
     let s₀ = c .before .before .args .s .now in (
       omega arith,
-      ap (λ (l : List ℕ). set l (v .i) 0) (v .inv .1) ∙ fill-more (v .i) 0 s₀ (omega arith),
+      rw (v .inv .1) (fill-more (v .i) 0 s₀ (omega arith)),
       simp length-set (v .inv .2),
     )
-
-same-length : tie.Need-same-length Inv-loop μ-loop
-same-length c = c .before .loop .inv .2
 
 returns : tie.Need-returns Inv-loop μ-loop
 returns c =
@@ -50,5 +47,5 @@ clear-spec =
     (λ c. search needs)
     (λ c. search needs)
     loop-again
-    same-length
+    (λ c. c .before .loop .inv .2)
     returns)

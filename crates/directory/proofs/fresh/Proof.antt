@@ -17,11 +17,11 @@ use Rattle.directory.proofs.fresh.Tie as tie
 abbrev at-start : tie.Else2 → tie.Start
 at-start c = c .before .before .before .before .before
 
-abbrev in-else1 : tie.Then3 → tie.Else1
-in-else1 c = c .before .before .before .before
+abbrev policy-known : tie.Else2 → tie.Else1
+policy-known c = c .before .before
 
-abbrev in-else2 : tie.After-slice-known2 → tie.Else2
-in-else2 c = c .before .before .before .before .before .before
+abbrev size-known : tie.After-clear → tie.Else2
+size-known c = c .before .before .before .before
 
 returns : tie.Need-returns
 returns c = fresh-policy _ _ _ (sym (c .before .known-policy .ensures) ∙ not-true _ (c .if1 .taken))
@@ -39,19 +39,17 @@ sized c = sym (c .before .known-size .ensures) ∙ not-false _ (c .if2 .left)
 
 returns-3 : tie.Need-returns-3
 returns-3 c =
-    fresh-length _ _ _ (policy (in-else1 c)) (sized (c .before .before)) (λ is. c .if3 .taken (omega arith))
-
-slice-write-dir-2 : tie.Need-slice-write-dir-2
-slice-write-dir-2 c = simp length-set (omega arith)
+    let e = c .before .before in
+    fresh-length _ _ _ (policy (policy-known e)) (sized e) (λ is. c .if3 .taken (omega arith))
 
 returns-4 : tie.Need-returns-4
 returns-4 c =
-    let e = in-else2 c in
+    let zeros = c .before .before in
+    let e = size-known zeros in
     let a = at-start e .args in
     let exact : ∣ a .dir .now ∣ ≡ 8 + 4 * a .c = omega arith in
-    let zeros = c .before .before .clear in
-    let cleared : zeros .last .0 ≡ replicate (8 + 4 * a .c) 0 = rw exact at (zeros .ensures) in
-    fresh-accepted _ _ _ (policy (e .before .before)) (sized e) exact _ (rw cleared (fresh-words (a .policy) (a .c)))
+    let cleared : zeros .clear .last .0 ≡ replicate (8 + 4 * a .c) 0 = rw exact at (zeros .clear .ensures) in
+    fresh-accepted _ _ _ (policy (policy-known e)) (sized e) exact _ (rw cleared (fresh-words (a .policy) (a .c)))
 
 pub fresh-spec : {M : Type 1} → statement M
 fresh-spec =
@@ -67,6 +65,6 @@ fresh-spec =
     returns-3
     (λ c κs. search needs)
     (λ c. omega arith)
-    slice-write-dir-2
+    (λ c. simp length-set (omega arith))
     (λ c. search needs)
     returns-4)

@@ -6,18 +6,6 @@ use Rattle.directory.proofs.Replaying.{four-stores}
 use Rattle.directory.proofs.put_answer.Statement.{statement}
 use Rattle.directory.proofs.put_answer.Tie as tie
 
-slice-write-answers-2 : tie.Need-slice-write-answers-2
-slice-write-answers-2 c = simp length-set (omega arith)
-
-slice-write-answers-3 : tie.Need-slice-write-answers-3
-slice-write-answers-3 c = simp length-set (omega arith)
-
-slice-write-answers-4 : tie.Need-slice-write-answers-4
-slice-write-answers-4 c = simp length-set (omega arith)
-
-same-length : tie.Need-same-length
-same-length c = simp length-set
-
 returns : tie.Need-returns
 returns c =
     let a = c .args in
@@ -32,12 +20,12 @@ put-answer-spec =
     (λ c. search needs)
     (λ c. search needs)
     (λ c. search needs)
-    slice-write-answers-2
+    (λ c. simp length-set (omega arith))
     (λ c. search needs)
     (λ c. search needs)
-    slice-write-answers-3
+    (λ c. simp length-set (omega arith))
     (λ c. search needs)
     (λ c. search needs)
-    slice-write-answers-4
-    same-length
+    (λ c. simp length-set (omega arith))
+    (λ c. simp length-set)
     returns)

@@ -44,12 +44,6 @@ loop-again c =
     let l = at-loop (t .before) in
     (goes-on _ _ _ (l .loop .inv .0) (omega arith) (omega arith) (t .step .ensures), omega arith, omega arith)
 
-same-length : tie.Need-same-length Inv-loop μ-loop
-same-length c = c .before .loop .inv .1
-
-same-length-2 : tie.Need-same-length-2 Inv-loop μ-loop
-same-length-2 c = c .before .loop .inv .2
-
 returns : tie.Need-returns Inv-loop μ-loop
 returns c = ends _ _ _ (c .before .loop .inv .0) (omega arith)
 
@@ -68,6 +62,6 @@ replay-spec =
     (λ c. search needs)
     (λ c. search needs)
     loop-again
-    same-length
-    same-length-2
+    (λ c. c .before .loop .inv .1)
+    (λ c. c .before .loop .inv .2)
     returns)

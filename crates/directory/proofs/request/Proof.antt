@@ -9,30 +9,26 @@ use Rattle.directory.proofs.request.Statement.{statement}
 use Rattle.directory.proofs.request.Tie as tie
 
 -- The places that are looked back to.
-abbrev at-start : tie.After-serve-arg → tie.Start
-at-start c = c .before .before .before .before .before
+abbrev at-start : tie.After-check → tie.Start
+at-start c = c .before .before .before
 
-abbrev after-slice-known : tie.Then1 → tie.After-slice-known
-after-slice-known c = c .before .before .before
-
-abbrev after-serve-arg : tie.After-slice-known2 → tie.After-serve-arg
-after-serve-arg c = c .before .before .before
+abbrev after-check : tie.After-serve-arg → tie.After-check
+after-check c = c .before .before
 
 returns : tie.Need-returns
 returns c =
-    let s = after-slice-known c .before in
-    requested-refused (s .args .dir .now) (s .args .page) _ (c .before .check .ensures .number-is) (λ none. omega arith)
+    let a = at-start (c .before) .args in
+    requested-refused (a .dir .now) (a .page) _ (c .before .check .ensures .number-is) (λ none. omega arith)
 
 serve-requires : tie.Need-serve-requires
-serve-requires c κs =
-    let number-is = c .before .before .check .ensures .number-is in
-    ready _ (accepted-sound (at-start c .args .dir .now) (sym number-is ∙ omega arith))
+serve-requires c κs = ready _ (accepted-sound _ (sym (after-check c .check .ensures .number-is) ∙ omega arith))
 
 returns-2 : tie.Need-returns-2
 returns-2 c =
-    let a = at-start (after-serve-arg c) .args in
-    let number-is = after-serve-arg c .before .before .check .ensures .number-is in
-    requested-served (a .dir .now) (a .page) _ number-is (omega arith) _ _ (c .before .before .serve .ensures .0)
+    let v = c .before .before in
+    let k = after-check (v .before) in
+    let a = at-start k .args in
+    requested-served (a .dir .now) (a .page) _ (k .check .ensures .number-is) (omega arith) _ _ (v .serve .ensures .0)
 
 pub request-spec : {M : Type 1} → statement M
 request-spec =

@@ -12,8 +12,8 @@ use Rattle.directory.proofs.run.Tie as tie
 abbrev after-check : tie.After-replay-arg2 → tie.After-check
 after-check c = c .before .before .before .before .before
 
-abbrev in-else1 : tie.After-no-tally3 → tie.Else1
-in-else1 c = c .before .before .before
+abbrev accepted : tie.After-no-tally3 → tie.Else1
+accepted c = c .before .before .before
 
 abbrev after-replay : tie.After-slice-known4 → tie.After-replay
 after-replay c = c .before .before .before .before
@@ -30,7 +30,7 @@ returns-2 c =
 
 returns-3 : tie.Need-returns-3
 returns-3 c =
-    let k = in-else1 c .before in
+    let k = accepted c .before in
     run-short _ _ _ _ (k .check .ensures .number-is) (omega arith) (omega arith) (omega arith) _ (c .no-tally3 .ensures)
 
 replay-requires : tie.Need-replay-requires
