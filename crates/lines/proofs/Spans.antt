@@ -41,23 +41,22 @@ module _ (s : List ℕ) (at stop : ℕ) (from : at ≤ stop) (inside : stop ≤ 
 abbrev pub valueFrom : List ℕ → ℕ → ℕ → Place
 valueFrom s at n = valueOf at n (lines (drop at s))
 
-module _ (s : List ℕ) (at : ℕ) where
-  module _ (stop : ℕ) (closed : ClosedAt s at stop) where
-    pub in-this-line : valueFrom s at 1 ≡ valueIn at (take (stop - at) (drop at s))
-    in-this-line = ap (valueOf at 1) (closed .reads)
+module _ {s : List ℕ} {at stop : ℕ} (closed : ClosedAt s at stop) where
+  pub in-this-line : valueFrom s at 1 ≡ valueIn at (take (stop - at) (drop at s))
+  in-this-line = ap (valueOf at 1) (closed .reads)
 
-    pub in-a-later-line : (n : ℕ) → valueFrom s at (suc (suc n)) ≡ valueFrom s (stop + 1) (suc n)
-    in-a-later-line n =
-        let l = take (stop - at) (drop at s) in
-        let part = part-length at stop s (omega (arith, closed .inside)) in
-        let width : at + ∣ l ∣ ≡ stop = omega (arith, closed .from) in
-        ap (valueOf at (suc (suc n))) (closed .reads)
-        ∙ ap (λ (m : ℕ). valueOf (m + 1) (suc n) (lines (drop (stop + 1) s))) width
+  pub in-a-later-line : (n : ℕ) → valueFrom s at (suc (suc n)) ≡ valueFrom s (stop + 1) (suc n)
+  in-a-later-line n =
+      let l = take (stop - at) (drop at s) in
+      let part = part-length at stop s (omega (arith, closed .inside)) in
+      let width : at + ∣ l ∣ ≡ stop = omega (arith, closed .from) in
+      ap (valueOf at (suc (suc n))) (closed .reads)
+      ∙ ap (λ (m : ℕ). valueOf (m + 1) (suc n) (lines (drop (stop + 1) s))) width
 
-  pub in-no-line : (n : ℕ) → MissingAt s at → valueFrom s at n ≡ nowhere
-  in-no-line zero h = refl
-  in-no-line (suc n) (ended past is) = ap (valueOf at (suc n)) is
-  in-no-line (suc n) (not-closed some is) = ap (valueOf at (suc n)) is
+pub in-no-line : {s : List ℕ} {at : ℕ} → MissingAt s at → (n : ℕ) → valueFrom s at n ≡ nowhere
+in-no-line h zero = refl
+in-no-line {at = at} (ended past is) (suc n) = ap (valueOf at (suc n)) is
+in-no-line {at = at} (not-closed some is) (suc n) = ap (valueOf at (suc n)) is
 
 -- SPANS
 

@@ -1,10 +1,10 @@
 -- Line `n` starts at `at`, so the line looked for is as many lines on as its number is more than `n`.
 use mathlib.Core.Path.{_≡_, refl, sym, ap, _∙_}
-use Prim.Native.Nat.{suc, _+_, _-_, _≤_}
+use Prim.Native.Nat.{ℕ, suc, _+_, _-_, _≤_}
 use native.Mathlib.Omega.{arith}
 use lib.ListN.{length}
 use borrow.Author.Needs.{needs}
-use Rattle.lines.proofs.Cursor.{closed-line, missing-line}
+use Rattle.lines.proofs.Cursor.{ClosedAt, closed-line, missing-line}
 use Rattle.lines.proofs.Spans.{valueFrom, in-this-line, in-a-later-line, in-no-line}
 use Rattle.lines.proofs.Spans.{span-nowhere, too-long, looked-up}
 use Rattle.lines.proofs.span_of.Statement.{statement}
@@ -24,22 +24,26 @@ abbrev μ-loop : tie.MeasureT-loop
 abbrev at-start : tie.At-loop Inv-loop μ-loop → tie.Start Inv-loop μ-loop
 at-start c = c .before .before .before
 
-abbrev in-loop : tie.After-refused2 Inv-loop μ-loop → tie.In-loop Inv-loop μ-loop
-in-loop c = c .before .before .before .before
+abbrev at-loop : tie.After-line-at Inv-loop μ-loop → tie.At-loop Inv-loop μ-loop
+at-loop c = c .before .before
 
-abbrev after-line-at : tie.After-known-told Inv-loop μ-loop → tie.After-line-at Inv-loop μ-loop
-after-line-at c = c .before .before .before
+abbrev after-line-at : tie.After-end Inv-loop μ-loop → tie.After-line-at Inv-loop μ-loop
+after-line-at c = c .before .before
 
-abbrev at-loop : tie.After-known-told Inv-loop μ-loop → tie.At-loop Inv-loop μ-loop
-at-loop c = after-line-at c .before .before
+abbrev after-end : tie.After-value-in Inv-loop μ-loop → tie.After-end Inv-loop μ-loop
+after-end c = c .before .before .before
 
-abbrev after-known-told : tie.After-value-in Inv-loop μ-loop → tie.After-known-told Inv-loop μ-loop
-after-known-told c = c .before .before
+-- How many lines on the line looked for ends.
+abbrev lines-on : tie.At-loop Inv-loop μ-loop → ℕ
+lines-on c = at-start c .args .line + 1 - c .loop .n
+
+-- The closed line that the cursor found.
+closed : (c : tie.After-end Inv-loop μ-loop) → let l = at-loop (after-line-at c) in
+    ClosedAt (at-start l .args .sheet .now) (l .loop .at) (c .end .given .0 .0)
+closed c = closed-line _ _ _ (sym (after-line-at c .line-at .ensures) ∙ c .end .given .1)
 
 returns : tie.Need-returns Inv-loop μ-loop
-returns c =
-    let a = c .before .before .before .args in
-    too-long (a .sheet .now) (a .line) (c .before .if1 .taken) (c .refused .ensures)
+returns c = too-long _ _ (c .before .if1 .taken) (c .refused .ensures)
 
 loop-holds : tie.Need-loop-holds Inv-loop μ-loop
 loop-holds c =
@@ -49,63 +53,48 @@ loop-holds c =
 
 returns-2 : tie.Need-returns-2 Inv-loop μ-loop
 returns-2 c =
-    let a = at-start (in-loop c .before) .args in
-    let s = a .sheet .now in
-    let v = in-loop c .before .loop in
-    let at = c .before .before .before .line-at .ensures in
-    let none = missing-line s (v .at) (sym at ∙ c .before .enum-told .given .1) in
-    let nowhere = v .inv .3 ∙ in-no-line s (v .at) (a .line + 1 - v .n) none in
-    looked-up s (a .line) (v .inv .2) nowhere (span-nowhere s (c .refused2 .ensures) refl)
+    let asked = c .before .before .before in
+    let v = at-loop asked .loop in
+    let none = missing-line _ _ (sym (asked .line-at .ensures) ∙ c .before .enum-told .given .1) in
+    let nowhere = v .inv .3 ∙ in-no-line none (lines-on (at-loop asked)) in
+    looked-up _ _ (v .inv .2) nowhere (span-nowhere _ (c .refused2 .ensures) refl)
 
 value-in-requires : tie.Need-value-in-requires Inv-loop μ-loop
-value-in-requires c κs =
-    let s = at-start (at-loop (c .before)) .args .sheet .now in
-    let at = after-line-at (c .before) .line-at .ensures in
-    let closed = closed-line s _ _ (sym at ∙ c .before .before .end .given .1) in
-    (closed .from, omega (arith, closed .inside))
+value-in-requires c κs = let h = closed (c .before .before) in (h .from, omega (arith, h .inside))
 
 returns-3 : tie.Need-returns-3 Inv-loop μ-loop
 returns-3 c =
-    let a = at-start (at-loop (after-known-told c)) .args in
-    let s = a .sheet .now in
-    let v = at-loop (after-known-told c) .loop in
-    let at = after-line-at (after-known-told c) .line-at .ensures in
-    let closed = closed-line s (v .at) _ (sym at ∙ after-known-told c .before .end .given .1) in
-    let last : a .line + 1 - v .n ≡ 1 = omega (arith, c .before .if2 .taken) in
-    let here = v .inv .3 ∙ ap (valueFrom s (v .at)) last ∙ in-this-line s (v .at) _ closed in
-    looked-up s (a .line) (v .inv .2) here (c .value-in .ensures)
+    let e = after-end c in
+    let l = at-loop (after-line-at e) in
+    let v = l .loop in
+    let last : lines-on l ≡ 1 = omega (arith, c .before .if2 .taken) in
+    let here = v .inv .3 ∙ ap (valueFrom _ (v .at)) last ∙ in-this-line (closed e) in
+    looked-up _ _ (v .inv .2) here (c .value-in .ensures)
 
 add-at : tie.Need-add-at Inv-loop μ-loop
 add-at c =
-    let s = at-start (at-loop (c .before)) .args .sheet .now in
-    let v = at-loop (c .before) .loop in
-    let at = after-line-at (c .before) .line-at .ensures in
-    let closed = closed-line s (v .at) _ (sym at ∙ c .before .before .end .given .1) in
-    omega (arith, closed .inside, v .inv .2)
+    let e = c .before .before in
+    omega (arith, closed e .inside, at-loop (after-line-at e) .loop .inv .2)
 
 loop-again : tie.Need-loop-again Inv-loop μ-loop
 loop-again c =
-    let a = at-start (at-loop (c .before)) .args in
-    let s = a .sheet .now in
-    let v = at-loop (c .before) .loop in
-    let at = after-line-at (c .before) .line-at .ensures in
-    let stop = c .before .before .end .given .0 .0 in
-    let closed = closed-line s (v .at) stop (sym at ∙ c .before .before .end .given .1) in
-    let left = a .line - (v .n + 1) in
-    let more : a .line + 1 - v .n ≡ suc (suc left) = omega (arith, c .if2 .left) in
-    let fewer : suc left ≡ a .line + 1 - (v .n + 1) = omega (arith, more) in
-    let later = in-a-later-line s (v .at) stop closed left in
-    let on = ap (valueFrom s (v .at)) more ∙ later ∙ ap (valueFrom s (stop + 1)) fewer in
+    let e = c .before .before in
+    let l = at-loop (after-line-at e) in
+    let v = l .loop in
+    let line = at-start l .args .line in
+    let left = line - (v .n + 1) in
+    let more : lines-on l ≡ suc (suc left) = omega (arith, c .if2 .left) in
+    let fewer : suc left ≡ line + 1 - (v .n + 1) = omega (arith, more) in
+    let later = in-a-later-line (closed e) left in
+    let on = ap (valueFrom _ (v .at)) more ∙ later ∙ ap (valueFrom _ (e .end .given .0 .0 + 1)) fewer in
     (omega arith, omega (arith, fewer), v .inv .2, v .inv .3 ∙ on)
 
 returns-4 : tie.Need-returns-4 Inv-loop μ-loop
 returns-4 c =
-    let a = at-start (c .before .before) .args in
-    let s = a .sheet .now in
     let v = c .before .before .loop in
-    let none : a .line + 1 - v .n ≡ 0 = omega arith in
-    let nowhere = v .inv .3 ∙ ap (valueFrom s (v .at)) none in
-    looked-up s (a .line) (v .inv .2) nowhere (span-nowhere s (c .refused3 .ensures) refl)
+    let none : lines-on (c .before .before) ≡ 0 = omega arith in
+    let nowhere = v .inv .3 ∙ ap (valueFrom _ (v .at)) none in
+    looked-up _ _ (v .inv .2) nowhere (span-nowhere _ (c .refused3 .ensures) refl)
 
 pub span-of-spec : {M : Type 1} → statement M
 span-of-spec =

@@ -6,6 +6,7 @@ use native.Mathlib.Omega.{arith}
 use lib.ListN.{length}
 use borrow.Author.Needs.{needs}
 use borrow.Author.Tests.{ltb-true}
+use Rattle.streams.specs.Reads.{ReadAt}
 use Rattle.streams.specs.declared.Got.the-variants.{Bytes}
 use Rattle.streams.proofs.Reading.{SoFar, begun, read-as, one-more, none-more, found-end, filled, handed-nothing}
 use Rattle.streams.proofs.read_from.Statement.{statement}
@@ -24,52 +25,40 @@ at-loop c = c .before .before .before .before
 abbrev after-read-once : tie.After-slice-known2 Inv-loop μ-loop → tie.After-read-once Inv-loop μ-loop
 after-read-once c = c .before .before
 
-abbrev after-slice-known2 : tie.After-known-told Inv-loop μ-loop → tie.After-slice-known2 Inv-loop μ-loop
-after-slice-known2 c = c .before .before .before
+abbrev after-bytes : tie.After-got Inv-loop μ-loop → tie.After-read-once Inv-loop μ-loop
+after-bytes c = after-read-once (c .before .before)
 
-add-at : tie.Need-add-at Inv-loop μ-loop
-add-at c =
-    let after-read = after-read-once (after-slice-known2 c) in
-    let one = read-as (c .before .got .given .1) (after-read .read-once .ensures) in
-    search needs
+-- A read that put bytes.
+bytes-read : (c : tie.After-got Inv-loop μ-loop) → let r = after-bytes c in let v = at-loop r .loop in
+    ReadAt (v .buf) (v .at) (Bytes (c .got .given .0 .0)) (r .read-once .last .1 .0)
+bytes-read c = read-as (c .got .given .1) (after-bytes c .read-once .ensures)
 
 loop-less : tie.Need-loop-less Inv-loop μ-loop
-loop-less c =
-    let after-read = after-read-once (after-slice-known2 c) in
-    let one = read-as (c .before .got .given .1) (after-read .read-once .ensures) in
-    omega (arith, one .some, one .fits, one .as-long)
+loop-less c = let one = bytes-read (c .before) in omega (arith, one .some, one .fits, one .as-long)
 
 loop-again : tie.Need-loop-again Inv-loop μ-loop
-loop-again c =
-    let after-read = after-read-once (after-slice-known2 c) in
-    let in-loop = at-loop after-read in
-    let one = read-as (c .before .got .given .1) (after-read .read-once .ensures) in
-    one-more (in-loop .loop .inv) (Bytes _) tt one
+loop-again c = one-more (at-loop (after-bytes (c .before)) .loop .inv) (Bytes _) tt (bytes-read (c .before))
 
 ended : tie.Need-returns Inv-loop μ-loop
 ended c =
-    let after-read = after-read-once (c .before .before) in
-    let in-loop = at-loop after-read in
-    found-end (in-loop .loop .inv) (read-as (c .enum-told .given .1) (after-read .read-once .ensures))
+    let r = after-read-once (c .before .before) in
+    found-end (at-loop r .loop .inv) (read-as (c .enum-told .given .1) (r .read-once .ensures))
 
 interrupted-less : tie.Need-loop-less-2 Inv-loop μ-loop
 interrupted-less c =
-    let after-read = after-read-once (c .before .before) in
-    let at-test = after-read .before .before in
-    let left = ltb-true 0 (at-test .before .before .loop .tries) (at-test .if1 .taken) in
-    omega (arith, left, after-read .read-once .ensures .as-long)
+    let r = after-read-once (c .before .before) in
+    let left = ltb-true 0 (at-loop r .loop .tries) (r .before .before .if1 .taken) in
+    omega (arith, left, r .read-once .ensures .as-long)
 
 interrupted-again : tie.Need-loop-again-2 Inv-loop μ-loop
 interrupted-again c =
-    let after-read = after-read-once (c .before .before) in
-    let in-loop = at-loop after-read in
-    none-more (in-loop .loop .inv) (read-as (c .enum-told2 .given .1) (after-read .read-once .ensures))
+    let r = after-read-once (c .before .before) in
+    none-more (at-loop r .loop .inv) (read-as (c .enum-told2 .given .1) (r .read-once .ensures))
 
 read-failed : tie.Need-returns-2 Inv-loop μ-loop
 read-failed c =
-    let after-read = after-read-once (c .before .before .before) in
-    let in-loop = at-loop after-read in
-    handed-nothing _ _ (c .failed .ensures) (after-read .read-once .ensures .as-long ∙ in-loop .loop .inv .as-long)
+    let r = after-read-once (c .before .before .before) in
+    handed-nothing _ _ (c .failed .ensures) (r .read-once .ensures .as-long ∙ at-loop r .loop .inv .as-long)
 
 pub read-from-spec : {M : Type 1} → statement M
 read-from-spec =
@@ -80,7 +69,7 @@ read-from-spec =
     (λ c. begun _)
     (λ c κs. search needs)
     (λ c. search needs)
-    add-at
+    (λ c. omega (arith, bytes-read (c .before) .fits))
     loop-less
     loop-again
     (λ c. search needs)
