@@ -21,8 +21,8 @@ after-policy-read c = c .before .before .before .before
 abbrev after-size-read : tie.After-cost-read → tie.After-size-read
 after-size-read c = c .before .before .before .before
 
-abbrev after-listed2 : tie.After-slice-known2 → tie.After-listed2
-after-listed2 c = c .before .before .before .before .before
+abbrev all-good : tie.After-slice-known2 → tie.After-listed2
+all-good c = c .before .before .before .before .before
 
 -- What the sheet comes to by the lines after the first, after the second and after the third.
 by-second : (c : tie.After-policy-read) → let first = c .policy-read .given .0 in
@@ -78,7 +78,7 @@ returns-4 c =
 
 returns-5 : tie.Need-returns-5
 returns-5 c =
-    let listed = after-listed2 c in
+    let listed = all-good c in
     let counted = listed .before .before in
     let all = pages-counted _ (sym (listed .listed2 .given .1) ∙ counted .count-pages .ensures) in
     answers-bid (by-pages (counted .before .before)) all (c .before .before .fill .ensures)

@@ -29,16 +29,14 @@ loop-holds c = (omega arith, refl)
 returns : tie.Need-returns Inv-loop μ-loop
 returns c =
     let v = at-loop (c .before) .loop in
-    let s = at-start (at-loop (c .before)) .args .text .now in
     let isnt = test-fails (c .before .is-digit .ensures) (c .if1 .taken) in
-    sym (v .inv .1 ∙ no-digit-here s (v .i) (omega arith) isnt)
+    sym (v .inv .1 ∙ no-digit-here _ (v .i) (omega arith) isnt)
 
 loop-again : tie.Need-loop-again Inv-loop μ-loop
 loop-again c =
     let v = at-loop (c .before) .loop in
-    let s = at-start (at-loop (c .before)) .args .text .now in
     let is = test-holds (c .before .is-digit .ensures) (c .if1 .left) in
-    (omega arith, v .inv .1 ∙ digit-here s (v .i) (omega arith) is)
+    (omega arith, v .inv .1 ∙ digit-here _ (v .i) (omega arith) is)
 
 returns-2 : tie.Need-returns-2 Inv-loop μ-loop
 returns-2 c =

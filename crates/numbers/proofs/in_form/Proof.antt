@@ -16,7 +16,8 @@ abbrev at-start : tie.Else3 → tie.Start
 at-start c = c .before .before .before .before .before
 
 -- The three tests passed.
-decides : (c : tie.Else3) → let a = at-start c .args in digitsForm (a .most) (a .text .now) ≡ noLeadingZero (a .text .now)
+decides : (c : tie.Else3) → let a = at-start c .args in
+    digitsForm (a .most) (a .text .now) ≡ noLeadingZero (a .text .now)
 decides c =
     let all = test-holds (c .before .all-digits .ensures) (c .if3 .left) in
     zero-decides _ _ (omega arith) (omega (arith, ltb-false)) all

@@ -1,4 +1,4 @@
--- Each answer tells what it says.
+-- 0 is the end; an answer that moved bytes tells how many; any other is below 0, a failure.
 use native.Mathlib.Omega.{arith}
 use borrow.Author.Needs.{needs}
 use Rattle.streams.specs.Reads.{IsFailure, ReadTells}

@@ -24,7 +24,7 @@ abbrev at-loop : tie.After-shared-slice-known2 Inv-loop μ-loop → tie.At-loop 
 at-loop c = c .before .before .before
 
 returns : tie.Need-returns Inv-loop μ-loop
-returns c = sym (short-lacks (c .before .args .key .now) (c .before .args .bytes .now) (c .if1 .taken))
+returns c = let a = c .before .args in sym (short-lacks (a .key .now) (a .bytes .now) (c .if1 .taken))
 
 loop-holds : tie.Need-loop-holds Inv-loop μ-loop
 loop-holds c = (omega arith, omega arith, refl)
@@ -32,15 +32,12 @@ loop-holds c = (omega arith, omega arith, refl)
 returns-2 : tie.Need-returns-2 Inv-loop μ-loop
 returns-2 c =
     let v = at-loop (c .before) .loop in
-    let a = at-start (at-loop (c .before)) .args in
-    sym (v .inv .2 ∙ key-differs (a .key .now) (a .bytes .now) (v .i) (omega arith) (omega arith) (c .if2 .taken))
+    sym (v .inv .2 ∙ key-differs _ _ (v .i) (omega arith) (omega arith) (c .if2 .taken))
 
 loop-again : tie.Need-loop-again Inv-loop μ-loop
 loop-again c =
     let v = at-loop (c .before) .loop in
-    let a = at-start (at-loop (c .before)) .args in
-    let goes-on = key-goes-on (a .key .now) (a .bytes .now) (v .i) (omega arith) (omega arith) (c .if2 .left) in
-    (omega arith, v .inv .1, v .inv .2 ∙ goes-on)
+    (omega arith, v .inv .1, v .inv .2 ∙ key-goes-on _ _ (v .i) (omega arith) (omega arith) (c .if2 .left))
 
 returns-3 : tie.Need-returns-3 Inv-loop μ-loop
 returns-3 c =

@@ -1,4 +1,4 @@
--- The answer is the test: by whether the size is at least 1.
+-- A size below 1 fails the first limit; of any other the second decides.
 use borrow.Author.Tests.{le-leb, lt-leb}
 use Rattle.terms.proofs.limits.known_size.Statement.{statement}
 use Rattle.terms.proofs.limits.known_size.Tie as tie

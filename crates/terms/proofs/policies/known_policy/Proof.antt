@@ -1,4 +1,4 @@
--- The answer is the test: by whether the policy is the first.
+-- A policy that is not the first is known where it is the second.
 use mathlib.Core.Path.{sym}
 use mathlib.Core.Bool.{or-false}
 use lib.Dec.{eqb}
