@@ -1,39 +1,58 @@
 -- Each number that an `if` chose is the one that `notedOf` chooses by the same test.
+use mathlib.Core.Path.{_≡_}
 use mathlib.Core.Logic.{⊎-elim}
+use Prim.Native.Nat.{ℕ, _-_, _≤_}
+use lib.Dec.{eqb, leb}
 use native.Mathlib.Omega.{arith}
 use borrow.Author.Needs.{needs}
 use borrow.Author.Tests.{eq-eqb, ne-eqb, le-leb, lt-leb}
+use Rattle.terms.specs.Choice.{if_then_else_}
 use Rattle.tally.proofs.noted.Statement.{statement}
 use Rattle.tally.proofs.noted.Tie as tie
 
-add-t9 : tie.Need-add-t9
-add-t9 c = ⊎-elim (λ w. omega arith) (λ w. omega arith) (c .before .before .before .before .before .if1 .came)
+-- The places that are looked back to.
+abbrev hit-chosen : tie.Joined2 → tie.Joined1
+hit-chosen c = c .before .before
 
-sub-t10 : tie.Need-sub-t10
-sub-t10 c = ⊎-elim (λ w. omega arith) (λ w. omega arith) (c .before .before .before .before .before .if1 .came)
+abbrev evicted-chosen : tie.After-row-known → tie.Joined2
+evicted-chosen c = c .before .before .before
 
-add-t12 : tie.Need-add-t12
-add-t12 c = ⊎-elim (λ w. omega arith) (λ w. omega arith) (c .before .before .before .before .before .before .if2 .came)
+abbrev misses-known : tie.After-row-known2 → tie.After-row-known
+misses-known c = c .before .before .before
+
+abbrev kind : tie.Joined1 → ℕ
+kind c = c .before .before .args .served .kind
+
+hit-is : (c : tie.Joined1) → let hit = eqb (kind c) 0 in
+    (c .if1 .hit ≤ 1) × (c .if1 .hit ≡ (if hit then 1 else 0)) × (1 - c .if1 .hit ≡ (if hit then 0 else 1))
+hit-is c =
+    ⊎-elim
+    (λ h. let test = eq-eqb (kind c) 0 (h .0 .taken) in (omega arith, simp (h .1, test), simp (h .1, test)))
+    (λ h. let test = ne-eqb (kind c) 0 (h .0 .left) in (omega arith, simp (h .1, test), simp (h .1, test)))
+    (c .if1 .came)
+
+evicted-is : (c : tie.Joined2)
+    → (c .if2 .evicted ≤ 1) × (c .if2 .evicted ≡ (if leb 2 (kind (hit-chosen c)) then 1 else 0))
+evicted-is c =
+    let k = kind (hit-chosen c) in
+    ⊎-elim
+    (λ e. (omega arith, simp (e .1, lt-leb 2 k (omega arith))))
+    (λ e. (omega arith, simp (e .1, le-leb 2 k (omega arith))))
+    (c .if2 .came)
 
 returns : tie.Need-returns
 returns c =
-    let evicted = c .before .before .before .before .before .before .before .before in
-    let hit = evicted .before .before in
-    let k = hit .before .before .args .served .kind in
-    ⊎-elim
-    (λ h.
-    ⊎-elim
-    (λ e. simp (h .1, e .1, eq-eqb k 0 (omega arith), lt-leb 2 k (omega arith)))
-    (λ e. simp (h .1, e .1, eq-eqb k 0 (omega arith), le-leb 2 k (omega arith)))
-    (evicted .if2 .came))
-    (λ h.
-    ⊎-elim
-    (λ e. simp (h .1, e .1, ne-eqb k 0 (h .0 .left), lt-leb 2 k (omega arith)))
-    (λ e. simp (h .1, e .1, ne-eqb k 0 (h .0 .left), le-leb 2 k (omega arith)))
-    (evicted .if2 .came))
-    (hit .if1 .came)
+    let e = evicted-chosen (misses-known (c .before .before)) in
+    cc (hit-is (hit-chosen e) .1, hit-is (hit-chosen e) .2, evicted-is e .1)
 
 pub noted-spec : {M : Type 1} → statement M
 noted-spec =
     tie.close
-    (tie.spec (λ c. search needs) add-t9 sub-t10 (λ c. search needs) add-t12 (λ c. search needs) returns)
+    (tie.spec
+    (λ c. search needs)
+    (λ c. omega (arith, hit-is (hit-chosen (evicted-chosen c))))
+    (λ c. omega (arith, hit-is (hit-chosen (evicted-chosen c))))
+    (λ c. search needs)
+    (λ c. omega (arith, evicted-is (evicted-chosen (misses-known c))))
+    (λ c. search needs)
+    returns)
