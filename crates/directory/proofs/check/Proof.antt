@@ -1,15 +1,14 @@
 -- Each return is the refusal whose turn it is, since the tests before it passed.
-use mathlib.Core.Path.{_≡_, sym, _∙_}
+use mathlib.Core.Path.{_≡_}
 use mathlib.Core.Bool.{true}
 use mathlib.Core.List.{List}
 use Prim.Native.Nat.{ℕ, _+_, _*_, _≤_}
 use native.Mathlib.Omega.{arith}
 use lib.ListN.{getD}
-use borrow.Author.Tests.{not-true, not-false}
 use Rattle.terms.specs.Choice.{∣_∣}
 use Rattle.terms.specs.Limits.{knownSize}
 use Rattle.terms.specs.Policies.{knownPolicy}
-use Rattle.terms.proofs.Tests.{reads}
+use Rattle.terms.proofs.Tests.{reads, test-holds, test-fails}
 use Rattle.figures.specs.Words.{size}
 use Rattle.directory.proofs.Refused.{check-short, check-policy, check-size, check-length}
 use Rattle.directory.proofs.Refused.{check-unsound, check-sound}
@@ -39,7 +38,7 @@ returns c = check-short _ (c .if1 .taken)
 returns-2 : tie.Need-returns-2
 returns-2 c =
     let tested = c .before in
-    check-policy _ (has-header tested .if1 .left) (sym (tested .known-policy .ensures) ∙ not-true _ (c .if2 .taken))
+    check-policy _ (has-header tested .if1 .left) (test-fails (tested .known-policy .ensures) (c .if2 .taken))
 
 abbrev w : tie.Else2 → List ℕ
 w c = c .before .before .before .before .before .args .dir .now
@@ -48,15 +47,15 @@ eight : (c : tie.Else2) → 8 ≤ ∣ w c ∣
 eight c = has-header (c .before) .if1 .left
 
 policy : (c : tie.Else2) → knownPolicy (getD (w c) 0 0) ≡ true
-policy c = sym (c .before .known-policy .ensures) ∙ not-false _ (c .if2 .left)
+policy c = test-holds (c .before .known-policy .ensures) (c .if2 .left)
 
 returns-3 : tie.Need-returns-3
 returns-3 c =
     let e = policy-known (c .before) in
-    check-size _ (eight e) (policy e) (sym (c .before .known-size .ensures) ∙ not-true _ (c .if3 .taken))
+    check-size _ (eight e) (policy e) (test-fails (c .before .known-size .ensures) (c .if3 .taken))
 
 sized : (c : tie.Else3) → knownSize (size (w (policy-known (c .before)))) ≡ true
-sized c = sym (c .before .known-size .ensures) ∙ not-false _ (c .if3 .left)
+sized c = test-holds (c .before .known-size .ensures) (c .if3 .left)
 
 mul-if4 : tie.Need-mul-if4
 mul-if4 c = let said = simp reads at (sized (size-known c)) in omega arith
@@ -82,13 +81,13 @@ returns-5 : tie.Need-returns-5
 returns-5 c =
     let x = c .before .before in
     check-unsound _ (eight (at-policy x)) (policy (at-policy x)) (sized (at-size x)) (exact x)
-    (sym (c .before .is-sound .ensures) ∙ not-true _ (c .if5 .taken))
+    (test-fails (c .before .is-sound .ensures) (c .if5 .taken))
 
 returns-6 : tie.Need-returns-6
 returns-6 c =
     let x = c .before .before in
     check-sound _ (eight (at-policy x)) (policy (at-policy x)) (sized (at-size x)) (exact x)
-    (sym (c .before .is-sound .ensures) ∙ not-false _ (c .if5 .left))
+    (test-holds (c .before .is-sound .ensures) (c .if5 .left))
 
 pub check-spec : {M : Type 1} → statement M
 check-spec =

@@ -1,10 +1,10 @@
 -- A fresh directory's words are zeros, with the policy and c put in; a refusal leaves the words.
-use mathlib.Core.Path.{_≡_, sym, _∙_}
+use mathlib.Core.Path.{_≡_}
 use mathlib.Core.Bool.{true}
 use Prim.Native.Nat.{_+_, _*_}
 use native.Mathlib.Omega.{arith}
 use lib.ListN.{replicate, length-set}
-use borrow.Author.Tests.{not-true, not-false}
+use Rattle.terms.proofs.Tests.{test-holds, test-fails}
 use Rattle.terms.specs.Choice.{∣_∣}
 use Rattle.terms.specs.Limits.{knownSize}
 use Rattle.terms.specs.Policies.{knownPolicy}
@@ -24,18 +24,18 @@ abbrev size-known : tie.After-clear → tie.Else2
 size-known c = c .before .before .before .before
 
 returns : tie.Need-returns
-returns c = fresh-policy _ _ _ (sym (c .before .known-policy .ensures) ∙ not-true _ (c .if1 .taken))
+returns c = fresh-policy _ _ _ (test-fails (c .before .known-policy .ensures) (c .if1 .taken))
 
 policy : (c : tie.Else1) → knownPolicy (c .before .before .before .args .policy) ≡ true
-policy c = sym (c .before .known-policy .ensures) ∙ not-false _ (c .if1 .left)
+policy c = test-holds (c .before .known-policy .ensures) (c .if1 .left)
 
 returns-2 : tie.Need-returns-2
 returns-2 c =
     let tested = c .before in
-    fresh-size _ _ _ (policy (tested .before)) (sym (tested .known-size .ensures) ∙ not-true _ (c .if2 .taken))
+    fresh-size _ _ _ (policy (tested .before)) (test-fails (tested .known-size .ensures) (c .if2 .taken))
 
 sized : (c : tie.Else2) → knownSize (at-start c .args .c) ≡ true
-sized c = sym (c .before .known-size .ensures) ∙ not-false _ (c .if2 .left)
+sized c = test-holds (c .before .known-size .ensures) (c .if2 .left)
 
 returns-3 : tie.Need-returns-3
 returns-3 c =

@@ -3,7 +3,8 @@ use mathlib.Core.Path.{_≡_, sym, _∙_}
 use mathlib.Core.Bool.{true}
 use mathlib.Core.List.{_++_}
 use native.Mathlib.Omega.{arith}
-use borrow.Author.Tests.{not-true, not-false, eq-eqb, ne-eqb}
+use borrow.Author.Tests.{eq-eqb, ne-eqb}
+use Rattle.terms.proofs.Tests.{test-holds, test-fails}
 use Rattle.figures.specs.Entry.{bits, total, noneOf, differ}
 use Rattle.figures.specs.Directory.{Directory, listed}
 use Rattle.figures.specs.Words.{decode}
@@ -27,10 +28,10 @@ differs : (c : tie.After-pages-differ) → c .pages-differ .result ≡ differ (l
 differs c = told (all-stand (at-start c .pre)) _ _ (c .pages-differ .ensures) (omega arith) (omega arith)
 
 returns : tie.Need-returns
-returns c = rw (sym (differs (c .before)) ∙ not-true _ (c .if1 .taken))
+returns c = rw (test-fails (differs (c .before)) (c .if1 .taken))
 
 all-differ : (c : tie.Else1) → differ (listed (d (c .before))) ≡ true
-all-differ c = sym (differs (c .before)) ∙ not-false _ (c .if1 .left)
+all-differ c = test-holds (differs (c .before)) (c .if1 .left)
 
 bits-set : (c : tie.After-count) → (let d = d (after-pages-differ c) in c .count .result ≡ total bits (d .b1 ++ d .b2))
 bits-set c =

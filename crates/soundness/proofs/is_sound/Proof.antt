@@ -1,12 +1,11 @@
 -- Sizes, flags and zeros in order make the words a directory's, and then the entries decide.
-use mathlib.Core.Path.{_≡_, sym, _∙_}
+use mathlib.Core.Path.{_≡_, _∙_}
 use mathlib.Core.Bool.{true}
 use mathlib.Core.List.{List}
 use Prim.Native.Nat.{ℕ, _+_, _≤_}
 use native.Mathlib.Omega.{arith}
-use borrow.Author.Tests.{not-true, not-false}
 use Rattle.terms.specs.Choice.{∣_∣}
-use Rattle.terms.proofs.Tests.{reads}
+use Rattle.terms.proofs.Tests.{reads, test-holds, test-fails}
 use Rattle.figures.specs.Words.{used}
 use Rattle.soundness.specs.Orderly.{sizesFit}
 use Rattle.soundness.proofs.Tests.{denied}
@@ -30,7 +29,7 @@ abbrev at-start : tie.After-wide4 → tie.Start
 at-start c = c .before .before .before .before .before .before .before .before .before .before .before
 
 returns : tie.Need-returns
-returns c = denied (sound-sizes _) (sym (c .before .sizes-fit .ensures) ∙ not-true _ (c .if1 .taken))
+returns c = denied (sound-sizes _) (test-fails (c .before .sizes-fit .ensures) (c .if1 .taken))
 
 add-cached : tie.Need-add-cached
 add-cached c = let known = c .before .shared-slice-known3 .given in omega (arith, known 4, known 5)
@@ -42,7 +41,7 @@ abbrev w : tie.After-wide4 → List ℕ
 w c = at-start c .args .dir .now
 
 sizes : (c : tie.After-wide4) → sizesFit (w c) ≡ true
-sizes c = let e = sizes-in-order c in sym (e .before .sizes-fit .ensures) ∙ not-false _ (e .if1 .left)
+sizes c = let e = sizes-in-order c in test-holds (e .before .sizes-fit .ensures) (e .if1 .left)
 
 -- The entries that the words state fit into them.
 within : (c : tie.After-wide4) → 8 + used (w c) ≤ ∣ w c ∣
@@ -53,19 +52,19 @@ flags-are : (c : tie.After-flags-known) → c .flags-known .result ≡ flagsKnow
 flags-are c = cc
 
 returns-2 : tie.Need-returns-2
-returns-2 c = denied (sound-flags _) (sym (flags-are (c .before)) ∙ not-true _ (c .if2 .taken))
+returns-2 c = denied (sound-flags _) (test-fails (flags-are (c .before)) (c .if2 .taken))
 
 zeros-are : (c : tie.After-all-zero) → c .all-zero .result ≡ restZero (w (after-wide4 (c .before)))
 zeros-are c = cc
 
 returns-3 : tie.Need-returns-3
-returns-3 c = denied (sound-zeros _) (sym (zeros-are (c .before)) ∙ not-true _ (c .if3 .taken))
+returns-3 c = denied (sound-zeros _) (test-fails (zeros-are (c .before)) (c .if3 .taken))
 
 flags : (c : tie.Else2) → flagsKnown (w (after-wide4 c)) ≡ true
-flags c = sym (flags-are (c .before)) ∙ not-false _ (c .if2 .left)
+flags c = test-holds (flags-are (c .before)) (c .if2 .left)
 
 zeros : (c : tie.Else3) → restZero (w (after-wide4 (flags-in-order c))) ≡ true
-zeros c = sym (zeros-are (c .before)) ∙ not-false _ (c .if3 .left)
+zeros c = test-holds (zeros-are (c .before)) (c .if3 .left)
 
 entries-sound-requires : tie.Need-entries-sound-requires
 entries-sound-requires c κs =
