@@ -43,7 +43,7 @@ module _ {w : List ℕ} (f : Full cart w) where
   stops = cart-stops (decode w) (held .shared) own (held .full)
 
   -- What `count` says of the entries of T1 and T2.
-  module _ (longs : ℕ) (counts : OfEntries w 8 (nT1 w + nT2 w) (λ l. longs ≡ total (ofFlag 2) l)) where
+  module _ {longs : ℕ} (counts : OfEntries w 8 (nT1 w + nT2 w) (λ l. longs ≡ total (ofFlag 2) l)) where
     counts-longs : longs ≡ inCache long (decode w)
     counts-longs =
         let d = decode w in

@@ -22,9 +22,9 @@ pub record Stands (w : List ℕ) (a n : ℕ) (l : List Entry) : Type 0 where
   pub many : ∣ l ∣ ≡ n
 
 -- So it is told what a search from word a′ on tells of any list of n′ entries that stands there.
-pub told : {w : List ℕ} {a n : ℕ} {l : List Entry} {Of : List Entry → Type 0} → Stands w a n l → (a′ n′ : ℕ)
+pub told : {w : List ℕ} {a n : ℕ} {l : List Entry} {Of : List Entry → Type 0} → Stands w a n l → {a′ n′ : ℕ}
     → OfEntries w a′ n′ Of → a ≡ a′ → n ≡ n′ → Of l
-told s a′ n′ tells at size = Reading.told (s .there) tells at (s .many ∙ size)
+told s tells at size = Reading.told (s .there) tells at (s .many ∙ size)
 
 module _ {w : List ℕ} (h : WordsHeld w) where
   abbrev d : Directory
@@ -60,6 +60,7 @@ module _ {w : List ℕ} (h : WordsHeld w) where
       stands (d .t1 ++ d .t2) (d .b1 ++ d .b2) [] (simp (append-assoc, append-nil))
       (simp length-append (omega (arith, lengths))) (simp length-append (omega (arith, lengths)))
 
--- The S and the L of it are all of it.
-pub filters : {w : List ℕ} {a n : ℕ} {l : List Entry} → Stands w a n l → total short l + total long l ≡ n
-filters {l = l} s = short-and-long l ∙ s .many
+-- Where r of its entries are L, the others are S.
+pub others-short : {w : List ℕ} {a n : ℕ} {l : List Entry} → Stands w a n l → {a′ n′ r : ℕ}
+    → OfEntries w a′ n′ (λ l. r ≡ total long l) → a ≡ a′ → n ≡ n′ → r + total short l ≡ n
+others-short {l = l} s counted at size = omega (arith, told s counted at size, short-and-long l, s .many)

@@ -38,7 +38,7 @@ counts c P R l parts first many = c .count .ensures .1 P R l parts first (many �
 first-pass-requires : tie.Need-first-pass-requires
 first-pass-requires c κs =
     let n = c .before in
-    let p = begins-passing (at-start (n .before) .pre) (n .count .result) (counts n) in
+    let p = begins-passing (at-start (n .before) .pre) (counts n) in
     (passing-room p, p)
 
 second-pass-requires : tie.Need-second-pass-requires
@@ -58,7 +58,7 @@ returns c =
     let n = first .before .before in
     let full = at-start (n .before) .pre in
     c .before .before .demote .ensures _
-    (passes-end (stops full) (begins-shown full (n .count .result) (counts n))
+    (passes-end (stops full) (begins-shown full (counts n))
     (first .first-pass .ensures .ends) (second .second-pass .ensures .0 .ends))
 
 pub evict-spec : {M : Type 1} → statement M

@@ -24,7 +24,7 @@ unfolding carSound
 returns c = fails _ (λ h. let said = simp reads at h in c .if1 .taken (said .0))
 
 long-ones : (c : tie.After-count) → c .count .result ≡ total long (listed (decode (at-start c .args .dir .now)))
-long-ones c = told (all-stand (at-start c .pre)) _ _ (c .count .ensures .1) (omega arith) (omega arith)
+long-ones c = told (all-stand (at-start c .pre)) (c .count .ensures .1) (omega arith) (omega arith)
 
 returns-2 : tie.Need-returns-2
 unfolding carSound

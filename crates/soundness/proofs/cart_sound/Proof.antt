@@ -1,14 +1,15 @@
 -- Each failure is one of CART's rules that does not hold; a list is L throughout where as many entries are L as it has.
 use mathlib.Core.Path.{_≡_, refl, sym, _∙_}
 use mathlib.Core.List.{_++_}
+use Prim.Native.Nat.{_+_}
 use native.Mathlib.Omega.{arith}
-use Rattle.figures.specs.Entry.{short, long, total}
-use Rattle.figures.specs.Words.{decode}
+use Rattle.figures.specs.Entry.{short, total}
+use Rattle.figures.specs.Words.{decode, nT2, nB2}
 use Rattle.figures.specs.Cart.{cartSound}
 use Rattle.laws.proofs.Lists.{total-append}
 use Rattle.terms.proofs.Tests.{reads}
 use Rattle.soundness.proofs.Tests.{fails, agree}
-use Rattle.soundness.proofs.Parts.{told, t2-stands, b1-stands, b2-stands, filters}
+use Rattle.soundness.proofs.Parts.{told, t2-stands, b1-stands, b2-stands, others-short}
 use borrow.Author.Needs.{needs}
 use Rattle.soundness.proofs.cart_sound.Statement.{statement}
 use Rattle.soundness.proofs.cart_sound.Tie as tie
@@ -27,41 +28,40 @@ returns : tie.Need-returns
 unfolding cartSound
 returns c = fails _ (λ h. let said = simp reads at h in omega arith)
 
-long-in-t2 : (c : tie.After-count) → c .count .result ≡ total long (decode (at-start c .args .dir .now) .t2)
-long-in-t2 c = told (t2-stands (at-start c .pre)) _ _ (c .count .ensures .1) (omega arith) (omega arith)
+short-in-t2 : (c : tie.After-count) → let w = at-start c .args .dir .now in
+    c .count .result + total short (decode w .t2) ≡ nT2 w
+short-in-t2 c = others-short (t2-stands (at-start c .pre)) (c .count .ensures .1) (omega arith) (omega arith)
+
+short-in-b2 : (c : tie.After-count2) → let w = at-start (after-count c) .args .dir .now in
+    c .count2 .result + total short (decode w .b2) ≡ nB2 w
+short-in-b2 c =
+    others-short (b2-stands (at-start (after-count c) .pre)) (c .count2 .ensures .1) (omega arith) (omega arith)
 
 returns-2 : tie.Need-returns-2
 unfolding cartSound
 returns-2 c =
-    let s = at-start (c .before .before) in
-    let d = decode (s .args .dir .now) in
-    let all = filters (t2-stands (s .pre)) in
-    let t2 = long-in-t2 (c .before .before) in
-    fails _ (λ h. let said = simp reads at h in c .if2 .taken (omega (arith, total-append short (d .t2) (d .b2))))
-
-long-in-b2 : (c : tie.After-count2)
-    → c .count2 .result ≡ total long (decode (at-start (after-count c) .args .dir .now) .b2)
-long-in-b2 c = told (b2-stands (at-start (after-count c) .pre)) _ _ (c .count2 .ensures .1) (omega arith) (omega arith)
+    let n = c .before .before in
+    let d = decode (at-start n .args .dir .now) in
+    let both = total-append short (d .t2) (d .b2) in
+    fails _ (λ h. let said = simp reads at h in c .if2 .taken (omega (arith, short-in-t2 n)))
 
 returns-3 : tie.Need-returns-3
 unfolding cartSound
 returns-3 c =
-    let s = at-start (after-count (c .before .before)) in
-    let d = decode (s .args .dir .now) in
-    let all = filters (b2-stands (s .pre)) in
-    let b2 = long-in-b2 (c .before .before) in
-    fails _ (λ h. let said = simp reads at h in c .if3 .taken (omega (arith, total-append short (d .t2) (d .b2))))
+    let n = c .before .before in
+    let d = decode (at-start (after-count n) .args .dir .now) in
+    let both = total-append short (d .t2) (d .b2) in
+    fails _ (λ h. let said = simp reads at h in c .if3 .taken (omega (arith, short-in-b2 n)))
 
 returns-4 : tie.Need-returns-4
 unfolding cartSound
 returns-4 c =
-    let s = at-start (after-count (after-count2 c)) in
+    let n = after-count2 c in
+    let s = at-start (after-count n) in
     let d = decode (s .args .dir .now) in
-    let t2 = long-in-t2 (after-count (after-count2 c)) in
-    let b2 = long-in-b2 (after-count2 c) in
-    let b1 = told (b1-stands (s .pre)) _ _ (c .count3 .ensures .1) (omega arith) (omega arith) in
+    let b1 = told (b1-stands (s .pre)) (c .count3 .ensures .1) (omega arith) (omega arith) in
     let none-short : total short (d .t2 ++ d .b2) ≡ 0 =
-    omega (arith, total-append short (d .t2) (d .b2), filters (t2-stands (s .pre)), filters (b2-stands (s .pre))) in
+    omega (arith, total-append short (d .t2) (d .b2), short-in-t2 (after-count n), short-in-b2 n) in
     agree
     _
     _

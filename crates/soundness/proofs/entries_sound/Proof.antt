@@ -25,7 +25,7 @@ abbrev d : tie.After-pages-differ → Directory
 d c = decode (at-start c .args .dir .now)
 
 differs : (c : tie.After-pages-differ) → c .pages-differ .result ≡ differ (listed (d c))
-differs c = told (all-stand (at-start c .pre)) _ _ (c .pages-differ .ensures) (omega arith) (omega arith)
+differs c = told (all-stand (at-start c .pre)) (c .pages-differ .ensures) (omega arith) (omega arith)
 
 returns : tie.Need-returns
 returns c = rw (test-fails (differs (c .before)) (c .if1 .taken))
@@ -36,7 +36,7 @@ all-differ c = test-holds (differs (c .before)) (c .if1 .left)
 bits-set : (c : tie.After-count) → (let d = d (after-pages-differ c) in c .count .result ≡ total bits (d .b1 ++ d .b2))
 bits-set c =
     let histories = history-stands (at-start (after-pages-differ c) .pre) in
-    told histories _ _ (c .count .ensures .1) (omega arith) (omega arith)
+    told histories (c .count .ensures .1) (omega arith) (omega arith)
 
 returns-2 : tie.Need-returns-2
 returns-2 c = rw (all-differ (c .before .before), ne-eqb _ 0 (λ none. c .if2 .taken (bits-set (c .before) ∙ none)))

@@ -6,9 +6,13 @@ use borrow.Author.Needs.{needs}
 use Rattle.entries.proofs.lists.find.Statement.{statement}
 use Rattle.entries.proofs.lists.find.Tie as tie
 
+-- The places that are looked back to.
+abbrev at-start : tie.After-wide → tie.Start
+at-start c = c .before .before .before .before
+
 find-requires : tie.Need-find-requires
 find-requires c κs =
-    let a = c .before .before .before .before .args in
+    let a = at-start c .args in
     omega (arith, list-within (a .dir .now) (a .i) (omega arith))
 
 returns : tie.Need-returns
