@@ -2,7 +2,7 @@
 -- The measure is the moves that are left: the accounts bound them, and every look costs one.
 use borrow.Author.Needs.{needs}
 use mathlib.Core.Path.{_≡_, refl, sym, _∙_}
-use mathlib.Core.Bool.{true, false}
+use mathlib.Core.Bool.{true}
 use Prim.Native.Nat.{_+_, _-_}
 use native.Mathlib.Omega.{arith}
 use lib.ListN.{length}
@@ -41,10 +41,14 @@ at-loop c = bit-set (after-t2-head-to-t1 (c .before) .before) .before .before
 abbrev after-raise : tie.After-struct-known2 Inv-loop μ-loop → tie.After-raise Inv-loop μ-loop
 after-raise c = c .before .before .before .before
 
--- T2's head has its bit set.
+-- The bit that the code has read is that of T2's head.
+bit-is : (c : tie.After-bit Inv-loop μ-loop) (d : Directory) → Holds d (c .before .loop .dir)
+    → frontOf (d .t2) .bit ≡ c .bit .result
+bit-is c d is = sym (c .bit .ensures (frontOf (d .t2)) (c .before .loop .inv .2 d is))
+
 head-set : (c : tie.Then1 Inv-loop μ-loop) (d : Directory) → Holds d (c .before .before .loop .dir)
     → frontOf (d .t2) .bit ≡ true
-head-set c d is = sym (c .before .bit .ensures (frontOf (d .t2)) (c .before .before .loop .inv .2 d is)) ∙ c .if1 .taken
+head-set c d is = bit-is (c .before) d is ∙ c .if1 .taken
 
 -- A turn of the loop is one look: the move of T2's head to T1's tail, and then "raise q".
 moved : (c : tie.After-t2-head-to-t1 Inv-loop μ-loop) → let l = bit-set (c .before) .before .before .loop in
@@ -87,9 +91,10 @@ loop-again c =
 returns : tie.Need-returns Inv-loop μ-loop
 returns c =
     let i = c .before .before .loop .inv in
-    let clear : (d : Directory) → Holds d (c .before .before .loop .dir) → frontOf (d .t2) .bit ≡ false =
-    λ d is. sym (c .before .bit .ensures (frontOf (d .t2)) (i .2 d is)) ∙ c .if1 .left in
-    record { passing = i .0; ends = ends-here (i .1) (λ h holds. first-stops h (clear (h .dir) (holds .shown))) }
+    record {
+      passing = i .0;
+      ends = ends-here (i .1) (λ h holds. first-stops h (bit-is (c .before) (h .dir) (holds .shown) ∙ c .if1 .left));
+    }
 
 pub first-pass-spec : {M : Type 1} → statement M
 first-pass-spec =
