@@ -82,7 +82,8 @@ returns-2 c h is short long =
 
 returns-3 : tie.Need-returns-3
 returns-3 c h is short long =
-    from-B1 (returned (after-come-back (c .before .before)) (h .dir) is short long) (c .before .if1 .left) (c .if2 .left)
+    let e = c .before in
+    from-B1 (returned (after-come-back (e .before)) (h .dir) is short long) (e .if1 .left) (c .if2 .left)
 
 pub place-spec : {M : Type 1} → statement M
 place-spec =
