@@ -8,10 +8,10 @@ use lib.ListN.{length-append}
 use Rattle.terms.specs.Choice.{∣_∣}
 use Rattle.terms.specs.Policies.{policyName}
 use Rattle.text.specs.Text.{bytes}
-use Rattle.sheets.specs.Result.{Outcome, decimal, milliseconds, lineOf, resultSheet}
-use Rattle.result.specs.Put.{PutFits}
+use Rattle.sheets.specs.Result.{Outcome, decimal, milliseconds, lineOf, resultSheet, refusedSheet}
+use Rattle.result.specs.Put.{PutFits, Put}
 use Rattle.result.specs.Parts.{tallyLines}
-use Rattle.result.proofs.Putting.{room-as}
+use Rattle.result.proofs.Putting.{both, room-as}
 
 -- A line with a number.
 abbrev line : String → ℕ → List ℕ
@@ -43,3 +43,9 @@ module _ (r : Outcome) where
       ≤ ∣ w ∣
   unfolding tallyLines
   tally-room room = let parts = simp length-append at (room .fits) in simp length-append (omega arith)
+
+-- A refused sheet is two lines.
+pub refused-put : (number n : ℕ) {w w₁ w₂ : List ℕ} {at a₁ a₂ : ℕ} → Put w at (line "refused=" number) w₁ a₁
+    → Put w₁ a₁ (line "line=" n) w₂ a₂ → Put w at (refusedSheet number n) w₂ a₂
+unfolding refusedSheet
+refused-put number n first second = both first second

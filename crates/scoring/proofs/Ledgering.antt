@@ -57,7 +57,15 @@ module _ (text pages dir answers out : List ℕ) {r : Scored} {pages′ dir′ a
   with-text (bid b) text₂ out₂ a over = search (over-fits over)
   with-text (refused number line) text₂ out₂ a over = search (over-fits over)
 
-module _ (s pages dir answers out : List ℕ) (lent : Lent (256 * 1001) pages dir answers out)
+-- The scoring is lent the first 256 bytes.
+module _ {pages dir answers out : List ℕ} (lent : Lent (256 * 1001) pages dir answers out) where
+  pub first-bytes : 256 ≡ ∣ take 256 out ∣
+  first-bytes = sym (length-take-le 256 out (omega arith))
+
+  pub lent-part : Lent 256 pages dir answers (take 256 out)
+  lent-part = omega (arith, first-bytes)
+
+module _ {s pages dir answers out : List ℕ} (lent : Lent (256 * 1001) pages dir answers out)
     {r : Scored} {pages′ dir′ answers′ part : List ℕ}
     (h : AnsweredWith (scored s) s pages dir answers (take 256 out) r pages′ dir′ answers′ part)
     (same : ∣ part ∣ ≡ ∣ take 256 out ∣) where

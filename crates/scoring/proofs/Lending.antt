@@ -11,7 +11,7 @@ use Rattle.scoring.specs.Refusals.{enough, onSheet}
 use Rattle.scoring.specs.Promises.{ScoredAs}
 use Rattle.scoring.specs.Ready.{refusedScored, Lent, AnsweredWith}
 
-module _ (least : ℕ) (pages dir answers out : List ℕ) (told : Bool)
+module _ (least : ℕ) {pages dir answers out : List ℕ} {told : Bool}
     (is : told ≡ enough least pages dir answers out) where
   pub lent : not told ≡ false → Lent least pages dir answers out
   unfolding enough
@@ -19,14 +19,13 @@ module _ (least : ℕ) (pages dir answers out : List ℕ) (told : Bool)
       let said = simp reads at (holds is h) in
       record { pages-fit = said .0; dir-fits = said .1 .0; answers-fit = said .1 .1 .0; out-fits = said .1 .1 .1 }
 
-  module _ (text sheet : List ℕ) where
-    pub short-answers : {r : Scored} → not told ≡ true → r ≡ refusedScored 6 0 0
-        → ScoredAs (onSheet text least sheet pages dir answers out) r pages dir answers out
-    unfolding onSheet
-    short-answers h e = rw (fails is h, e) (search needs)
+  pub short-answers : (text sheet : List ℕ) {r : Scored} → not told ≡ true → r ≡ refusedScored 6 0 0
+      → ScoredAs (onSheet text least sheet pages dir answers out) r pages dir answers out
+  unfolding onSheet
+  short-answers text sheet h e = rw (fails is h, e) (search needs)
 
-    pub sheet-answers : {r : Scored} {pages′ dir′ answers′ out′ : List ℕ} → not told ≡ false
-        → AnsweredWith text sheet pages dir answers out r pages′ dir′ answers′ out′
-        → ScoredAs (onSheet text least sheet pages dir answers out) r pages′ dir′ answers′ out′
-    unfolding onSheet
-    sheet-answers h a = rw (holds is h) (a .answer-is)
+  pub sheet-answers : {text sheet : List ℕ} {r : Scored} {pages′ dir′ answers′ out′ : List ℕ} → not told ≡ false
+      → AnsweredWith text sheet pages dir answers out r pages′ dir′ answers′ out′
+      → ScoredAs (onSheet text least sheet pages dir answers out) r pages′ dir′ answers′ out′
+  unfolding onSheet
+  sheet-answers h a = rw (holds is h) (a .answer-is)

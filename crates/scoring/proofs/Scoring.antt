@@ -80,8 +80,8 @@ module _ {b : Bid} {pages dir answers out : List ℕ} (h : GoodBid b pages dir a
             (rw is at front);
       }
 
-module _ (s pages dir answers out : List ℕ) (lent : Lent 256 pages dir answers out) (b : Bid) (pages′ : List ℕ)
-    (read : BidRead s pages b pages′) where
+module _ (s : List ℕ) {pages dir answers out : List ℕ} (lent : Lent 256 pages dir answers out)
+    {b : Bid} {pages′ : List ℕ} (read : BidRead s pages b pages′) where
   pub refusal-scored : {out′ : List ℕ} {w : Written} {r : Scored} → (b .number ≡ 0 → ⊥)
       → WroteRefusal (b .number) (b .line) out w out′ → r ≡ refusedScored (b .number) (b .line) (w .count)
       → AnsweredWith (scored s) s pages dir answers out r pages′ dir answers out′

@@ -4,9 +4,9 @@ use Prim.Native.Nat.{_+_, _≤_}
 use native.Mathlib.Omega.{arith}
 use Rattle.terms.specs.Choice.{∣_∣}
 use Rattle.text.specs.Text.{bytes}
-use Rattle.sheets.specs.Result.{decimal, lineOf, refusedSheet}
+use Rattle.sheets.specs.Result.{decimal, lineOf}
 use Rattle.sheets.proofs.Lengths.{count-length}
-use Rattle.result.proofs.Putting.{both}
+use Rattle.result.proofs.Parts.{refused-put}
 use Rattle.result.proofs.Refused.{text-short, text-written}
 use Rattle.result.proofs.write_refusal.Statement.{statement}
 use Rattle.result.proofs.write_refusal.Tie as tie
@@ -25,28 +25,14 @@ both-fit s =
     let second = count-length (bytes "line=") (s .args .line) (omega arith) in
     omega arith
 
-returns : tie.Need-returns
-returns c =
-    let a = c .before .before .args in
-    text-short (refusedSheet (a .number) (a .line)) (a .out .now) (c .if1 .taken)
-
-returns-2 : tie.Need-returns-2
-unfolding refusedSheet
-returns-2 c =
-    let first = after-refused (c .before .before .before) in
-    let e = first .before .before .before in
-    let a = e .before .before .args in
-    text-written (refusedSheet (a .number) (a .line)) (a .out .now) (e .if1 .left)
-    (both (first .put-line .ensures) (c .before .before .put-line2 .ensures))
-
 pub write-refusal-spec : {M : Type 1} → statement M
 write-refusal-spec =
     tie.close
     (tie.spec
-    returns
+    (λ c. search text-short)
     (λ c. search needs)
     (λ c κs. omega (arith, both-fit (at-start c)))
     (λ c. search needs)
     (λ c κs. omega (arith, both-fit (at-start (after-refused c .before))))
     (λ c. search needs)
-    returns-2)
+    (λ c. search (text-written, refused-put)))

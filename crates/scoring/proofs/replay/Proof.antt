@@ -4,12 +4,12 @@ use Rattle.scoring.proofs.Fresh.{ran-fresh}
 use Rattle.scoring.proofs.replay.Statement.{statement}
 use Rattle.scoring.proofs.replay.Tie as tie
 
-returns : tie.Need-returns
-returns c =
-    let ran = c .before .before .before .before .before in
-    let made = ran .before .before .before .before .before in
-    ran-fresh (made .before .before .before .before .before .pre) (made .fresh .ensures) (ran .run .ensures)
-
 pub replay-spec : {M : Type 1} → statement M
 replay-spec =
-    tie.close (tie.spec (λ c κs. search needs) (λ c κs. search needs) (λ c. search needs) (λ c. search needs) returns)
+    tie.close
+    (tie.spec
+    (λ c κs. search needs)
+    (λ c κs. search needs)
+    (λ c. search needs)
+    (λ c. search needs)
+    (λ c. search ran-fresh))

@@ -4,29 +4,10 @@ use Rattle.scoring.proofs.Lending.{lent, short-answers, sheet-answers}
 use Rattle.scoring.proofs.score.Statement.{statement}
 use Rattle.scoring.proofs.score.Tie as tie
 
--- The places that are looked back to.
-abbrev in-else1 : tie.After-score-sheet-arg4 → tie.Else1
-in-else1 c = c .before .before .before .before
-
-abbrev after-score-sheet : tie.After-slice-known8 → tie.After-score-sheet
-after-score-sheet c = c .before .before .before .before .before .before .before .before
-
-returns : tie.Need-returns
-returns c =
-    let told = c .before .before in
-    short-answers 256 _ _ _ _ _ (told .lends-enough .ensures) _ _ (c .before .if1 .taken) (c .refused .ensures)
-
 score-sheet-requires : tie.Need-score-sheet-requires
 score-sheet-requires c κs =
-    let enough = in-else1 c in
-    lent 256 _ _ _ _ _ (enough .before .lends-enough .ensures) (enough .if1 .left)
-
-returns-2 : tie.Need-returns-2
-returns-2 c =
-    let answered = after-score-sheet c in
-    let enough = in-else1 (answered .before) in
-    sheet-answers 256 _ _ _ _ _ (enough .before .lends-enough .ensures) _ _ (enough .if1 .left)
-    (answered .score-sheet .ensures)
+    let enough = c .before .before .before .before in
+    lent 256 (enough .before .lends-enough .ensures) (enough .if1 .left)
 
 pub score-spec : {M : Type 1} → statement M
 score-spec =
@@ -38,10 +19,10 @@ score-spec =
     (λ c. search needs)
     (λ c. search needs)
     (λ c. search needs)
-    returns
+    (λ c. search short-answers)
     score-sheet-requires
     (λ c. search needs)
     (λ c. search needs)
     (λ c. search needs)
     (λ c. search needs)
-    returns-2)
+    (λ c. search sheet-answers))
