@@ -11,9 +11,6 @@ returns c = short-buffer _ _ (omega arith) (c .refused .ensures)
 returns-2 : tie.Need-returns-2
 returns-2 c = long-sheet _ _ (omega arith) (omega arith) (c .refused2 .ensures)
 
-returns-3 : tie.Need-returns-3
-returns-3 c = by-lines _ _ (omega arith) (omega arith) (c .before .before .read-lines .ensures)
-
 pub read-spec : {M : Type 1} → statement M
 read-spec =
     tie.close
@@ -24,4 +21,4 @@ read-spec =
     returns-2
     (λ c κs. search needs)
     (λ c. search needs)
-    returns-3)
+    (λ c. search by-lines))

@@ -18,14 +18,6 @@ inside c =
     let s = at-start c in
     head-inside (omega (arith, s .pre .1 .0)) (s .pre .1 .1) (c .start-of .ensures) (s .pre .0)
 
-returns : tie.Need-returns
-returns c =
-    let m = c .before .before in
-    let f = m .before .before in
-    let at = f .before .before .before in
-    let s = at-start at in
-    head-demoted (s .pre .1 .0) (s .pre .1 .1) (at .start-of .ensures) (f .demoted .ensures) (m .move-head .ensures)
-
 pub demote-head-spec : {M : Type 1} → statement M
 demote-head-spec =
     tie.close
@@ -40,4 +32,4 @@ demote-head-spec =
     (λ c. search needs)
     (λ c κs. search needs)
     (λ c. search needs)
-    returns)
+    (λ c. search head-demoted))

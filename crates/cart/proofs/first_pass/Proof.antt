@@ -1,7 +1,7 @@
 -- A turn of the loop is one look, and what is left of the repeat from here is what is left from the start.
 -- The measure is the moves that are left: the accounts bound them, and every look costs one.
 use borrow.Author.Needs.{needs}
-use mathlib.Core.Path.{_≡_, refl, sym, _∙_}
+use mathlib.Core.Path.{_≡_, sym, _∙_}
 use mathlib.Core.Bool.{true}
 use Prim.Native.Nat.{_+_, _-_}
 use native.Mathlib.Omega.{arith}
@@ -64,9 +64,6 @@ looked : (c : tie.After-raise Inv-loop μ-loop)
     (afterMove (l .now .short) (l .now .long) (l .now .hand .cleared + 1) (l .now))
 looked c = moved (after-t2-head-to-t1 (c .before)) .looked (c .raise .last .0) (c .raise .ensures)
 
-loop-holds : tie.Need-loop-holds Inv-loop μ-loop
-loop-holds c = (c .before .before .before .pre .1, begins, c .head-flags .ensures, refl)
-
 t2-head-to-t1-requires : tie.Need-t2-head-to-t1-requires Inv-loop μ-loop
 t2-head-to-t1-requires c κs =
     let t = bit-set c in
@@ -103,7 +100,7 @@ first-pass-spec =
     Inv-loop
     μ-loop
     (λ c κs. search needs)
-    loop-holds
+    (λ c. search begins)
     (λ c κs. search needs)
     t2-head-to-t1-requires
     raise-requires

@@ -1,7 +1,7 @@
 -- A turn of the loop is one look, and what is left of the repeat from here is what is left from the start.
 -- The measure is the moves that are left: the accounts bound them, and every look costs one.
 use borrow.Author.Needs.{needs}
-use mathlib.Core.Path.{_≡_, refl, sym, _∙_}
+use mathlib.Core.Path.{_≡_, sym, _∙_}
 use mathlib.Core.Bool.{false}
 use Prim.Native.Nat.{_-_}
 use native.Mathlib.Omega.{arith}
@@ -26,18 +26,12 @@ abbrev μ-loop : tie.MeasureT-loop
 μ-loop dir₀ now₀ f₀ dir now f = 2048 - now .hand .moves
 
 -- The places that are looked back to.
-abbrev at-loop : tie.After-turn Inv-loop μ-loop → tie.At-loop Inv-loop μ-loop
-at-loop c = c .before .before .before .before
-
 abbrev after-turn : tie.After-head-flags-arg2 Inv-loop μ-loop → tie.After-turn Inv-loop μ-loop
 after-turn c = c .before .before .before
 
 -- The test that the code has made.
 tested : (c : tie.After-goes-on Inv-loop μ-loop) → SecondTest (c .goes-on .result) (c .before .loop .dir)
 tested c d is = sym (c .goes-on .ensures (frontOf (d .t1)) (c .before .loop .inv .2 d is))
-
-loop-holds : tie.Need-loop-holds Inv-loop μ-loop
-loop-holds c = (c .before .before .before .pre .1, begins, c .head-flags .ensures, refl)
 
 turn-requires : tie.Need-turn-requires Inv-loop μ-loop
 turn-requires c κs =
@@ -53,12 +47,6 @@ loop-less c =
     let l = after-turn (c .before) .turn .ensures in
     omega (arith, l .passing .accounts .left, l .one-move)
 
-loop-again : tie.Need-loop-again Inv-loop μ-loop
-loop-again c =
-    let t = after-turn (c .before) in
-    let l = t .turn .ensures in
-    (l .passing, goes-on (at-loop t .loop .inv .1) l, c .head-flags2 .ensures, search needs)
-
 returns : tie.Need-returns Inv-loop μ-loop
 returns c =
     let i = c .before .before .loop .inv in
@@ -73,11 +61,11 @@ second-pass-spec =
     Inv-loop
     μ-loop
     (λ c κs. search needs)
-    loop-holds
+    (λ c. search begins)
     (λ c κs. search needs)
     turn-requires
     head-flags-requires-2
     loop-less
-    loop-again
+    (λ c. search goes-on)
     (λ c. search needs)
     returns)

@@ -35,11 +35,6 @@ at-policy c = at-size c .before .before .before
 returns : tie.Need-returns
 returns c = check-short _ (c .if1 .taken)
 
-returns-2 : tie.Need-returns-2
-returns-2 c =
-    let tested = c .before in
-    check-policy _ (has-header tested .if1 .left) (test-fails (tested .known-policy .ensures) (c .if2 .taken))
-
 abbrev w : tie.Else2 → List ℕ
 w c = c .before .before .before .before .before .args .dir .now
 
@@ -96,7 +91,7 @@ check-spec =
     returns
     (λ c. search needs)
     (λ c κs. search needs)
-    returns-2
+    (λ c. search (check-policy, test-fails))
     (λ c. search needs)
     (λ c κs. search needs)
     returns-3

@@ -23,9 +23,6 @@ policy-known c = c .before .before
 abbrev size-known : tie.After-clear → tie.Else2
 size-known c = c .before .before .before .before
 
-returns : tie.Need-returns
-returns c = fresh-policy _ _ _ (test-fails (c .before .known-policy .ensures) (c .if1 .taken))
-
 policy : (c : tie.Else1) → knownPolicy (c .before .before .before .args .policy) ≡ true
 policy c = test-holds (c .before .known-policy .ensures) (c .if1 .left)
 
@@ -56,7 +53,7 @@ fresh-spec =
     tie.close
     (tie.spec
     (λ c κs. search needs)
-    returns
+    (λ c. search (fresh-policy, test-fails))
     (λ c κs. search needs)
     returns-2
     (λ c κs. search needs)

@@ -2,7 +2,7 @@
 use borrow.Author.Needs.{needs}
 use mathlib.Core.Path.{_≡_}
 use lib.ListN.{getD}
-use Rattle.terms.specs.Policies.{car, cart}
+use Rattle.terms.specs.Policies.{cart}
 use Rattle.directory.proofs.Serving.{evicts-as, other-is-cart}
 use Rattle.directory.proofs.miss.Statement.{statement}
 use Rattle.directory.proofs.miss.Tie as tie
@@ -10,9 +10,6 @@ use Rattle.directory.proofs.miss.Tie as tie
 -- The places that are looked back to.
 abbrev at-start : tie.After-slice-known2 → tie.Start
 at-start c = c .before .before
-
-abbrev names-car : tie.After-miss → tie.Then1
-names-car c = c .before .before
 
 abbrev names-cart : tie.After-miss2 → tie.Else1
 names-cart c = c .before .before
@@ -24,13 +21,6 @@ miss-requires-2 : tie.Need-miss-requires-2
 miss-requires-2 c κs =
     let s = at-start (c .before .before) in
     record { is-sound = s .pre .0 .is-sound; is-named = is-cart (c .before); is-full = s .pre .1 }
-
-returns : tie.Need-returns
-returns c =
-    let m = c .before .before in
-    let t = names-car m in
-    let s = at-start (t .before) in
-    evicts-as (s .pre .0) car (t .if1 .taken) (s .args .page) (m .miss .ensures)
 
 returns-2 : tie.Need-returns-2
 returns-2 c =
@@ -47,6 +37,6 @@ miss-spec =
     (λ c κs. search needs)
     miss-requires-2
     (λ c. search needs)
-    returns
+    (λ c. search evicts-as)
     (λ c. search needs)
     returns-2)

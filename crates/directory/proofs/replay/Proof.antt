@@ -44,9 +44,6 @@ loop-again c =
     let l = at-loop (t .before) in
     (goes-on _ _ _ (l .loop .inv .0) (omega arith) (omega arith) (t .step .ensures), omega arith, omega arith)
 
-returns : tie.Need-returns Inv-loop μ-loop
-returns c = ends _ _ _ (c .before .loop .inv .0) (omega arith)
-
 pub replay-spec : {M : Type 1} → statement M
 replay-spec =
     tie.close
@@ -64,4 +61,4 @@ replay-spec =
     loop-again
     (λ c. c .before .loop .inv .1)
     (λ c. c .before .loop .inv .2)
-    returns)
+    (λ c. search ends))

@@ -42,9 +42,6 @@ closed : (c : tie.After-end Inv-loop μ-loop) → let l = at-loop (after-line-at
     ClosedAt (at-start l .args .sheet .now) (l .loop .at) (c .end .given .0 .0)
 closed c = closed-line _ _ _ (sym (after-line-at c .line-at .ensures) ∙ c .end .given .1)
 
-returns : tie.Need-returns Inv-loop μ-loop
-returns c = too-long _ _ (c .before .if1 .taken) (c .refused .ensures)
-
 loop-holds : tie.Need-loop-holds Inv-loop μ-loop
 loop-holds c =
     let a = c .before .before .args in
@@ -103,7 +100,7 @@ span-of-spec =
     Inv-loop
     μ-loop
     (λ c κs. search needs)
-    returns
+    (λ c. search too-long)
     loop-holds
     (λ c κs. search needs)
     (λ c. search needs)

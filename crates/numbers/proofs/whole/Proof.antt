@@ -13,9 +13,6 @@ use Rattle.numbers.proofs.whole.Tie as tie
 form : (c : tie.Else1) → digitsForm 10 (c .before .before .before .args .text .now) ≡ true
 form c = test-holds (c .before .in-form .ensures) (c .if1 .left)
 
-returns : tie.Need-returns
-returns c = sym (whole-not-in-form _ (test-fails (c .before .in-form .ensures) (c .if1 .taken)))
-
 value-requires : tie.Need-value-requires
 value-requires c κs = let is = in-form 10 _ (form c) in (is .digits, is .at-most)
 
@@ -29,4 +26,4 @@ returns-3 c =
 
 pub whole-spec : {M : Type 1} → statement M
 whole-spec =
-    tie.close (tie.spec (λ c κs. search needs) returns value-requires returns-2 (λ c. omega arith) returns-3)
+    tie.close (tie.spec (λ c κs. search needs) (λ c. search (whole-not-in-form, test-fails)) value-requires returns-2 (λ c. omega arith) returns-3)

@@ -39,21 +39,11 @@ loop-less c = let one = bytes-read (c .before) in omega (arith, one .some, one .
 loop-again : tie.Need-loop-again Inv-loop μ-loop
 loop-again c = one-more (at-loop (after-bytes (c .before)) .loop .inv) (Bytes _) tt (bytes-read (c .before))
 
-ended : tie.Need-returns Inv-loop μ-loop
-ended c =
-    let r = after-read-once (c .before .before) in
-    found-end (at-loop r .loop .inv) (read-as (c .enum-told .given .1) (r .read-once .ensures))
-
 interrupted-less : tie.Need-loop-less-2 Inv-loop μ-loop
 interrupted-less c =
     let r = after-read-once (c .before .before) in
     let left = ltb-true 0 (at-loop r .loop .tries) (r .before .before .if1 .taken) in
     omega (arith, left, r .read-once .ensures .as-long)
-
-interrupted-again : tie.Need-loop-again-2 Inv-loop μ-loop
-interrupted-again c =
-    let r = after-read-once (c .before .before) in
-    none-more (at-loop r .loop .inv) (read-as (c .enum-told2 .given .1) (r .read-once .ensures))
 
 read-failed : tie.Need-returns-2 Inv-loop μ-loop
 read-failed c =
@@ -74,11 +64,11 @@ read-from-spec =
     loop-again
     (λ c. search needs)
     (λ c. search needs)
-    ended
+    (λ c. search (found-end, read-as))
     (λ c. search needs)
     (λ c. search needs)
     interrupted-less
-    interrupted-again
+    (λ c. search (none-more, read-as))
     (λ c. search needs)
     (λ c κs. search needs)
     (λ c. search needs)

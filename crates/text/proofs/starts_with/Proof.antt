@@ -23,9 +23,6 @@ at-start c = c .before .before
 abbrev at-loop : tie.After-shared-slice-known2 Inv-loop μ-loop → tie.At-loop Inv-loop μ-loop
 at-loop c = c .before .before .before
 
-returns : tie.Need-returns Inv-loop μ-loop
-returns c = let a = c .before .args in sym (short-lacks (a .key .now) (a .bytes .now) (c .if1 .taken))
-
 loop-holds : tie.Need-loop-holds Inv-loop μ-loop
 loop-holds c = (omega arith, omega arith, refl)
 
@@ -52,7 +49,7 @@ starts-with-spec =
     (tie.spec
     Inv-loop
     μ-loop
-    returns
+    (λ c. search short-lacks)
     loop-holds
     (λ c. search needs)
     (λ c. search needs)

@@ -25,7 +25,7 @@ found c = subst (KeyedAt _ _ _) (c .start .given .1) (c .before .before .under-k
 
 returns : tie.Need-returns
 unfolding costLine
-returns c = no-line-read (c .before .before .under-key .ensures) _ (c .enum-told .given .1)
+returns c = search no-line-read
 
 returns-2 : tie.Need-returns-2
 unfolding costLine

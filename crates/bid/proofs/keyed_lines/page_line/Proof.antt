@@ -36,7 +36,7 @@ counts c s = rw (lt-ltb _ _ (c .if1 .left))
 
 returns : tie.Need-returns
 unfolding pageLine
-returns c = no-line-read (c .before .before .under-key .ensures) _ (c .enum-told .given .1)
+returns c = search no-line-read
 
 returns-2 : tie.Need-returns-2
 unfolding pageLine

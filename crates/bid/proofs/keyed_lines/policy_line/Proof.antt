@@ -35,7 +35,7 @@ is-case c v is = ap policyMeant (sym (c .policy-value .ensures) ∙ ap policyCas
 
 returns : tie.Need-returns
 unfolding policyLine
-returns c = no-line-read (c .before .before .under-key .ensures) _ (c .enum-told .given .1)
+returns c = search no-line-read
 
 returns-2 : tie.Need-returns-2
 unfolding policyLine

@@ -40,7 +40,7 @@ is-number c = ap inRange (sym (after-whole c .whole .ensures) ∙ ap meant (c .c
 
 returns : tie.Need-returns
 unfolding sizeLine
-returns c = no-line-read (c .before .before .under-key .ensures) _ (c .enum-told .given .1)
+returns c = search no-line-read
 
 returns-2 : tie.Need-returns-2
 unfolding sizeLine

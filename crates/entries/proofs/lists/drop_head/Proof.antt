@@ -18,14 +18,6 @@ take-out-requires c κs =
     let a = at-start (after-start-of c) .args in
     omega (arith, list-within (a .dir .now) (a .b) (omega arith))
 
-returns : tie.Need-returns
-returns c d is fits =
-    let out = c .before .before in
-    let b = after-start-of (out .before) in
-    let h = at-start b .pre .1 in
-    head-dropped d (h .1) is (h .2) fits
-    (b .start-of .ensures) (out .before .before .before .start-of2 .ensures) (out .take-out .ensures)
-
 pub drop-head-spec : {M : Type 1} → statement M
 drop-head-spec =
     tie.close
@@ -41,4 +33,4 @@ drop-head-spec =
     (λ c. search needs)
     (λ c. search needs)
     (λ c. search needs)
-    returns)
+    (λ c. search head-dropped))

@@ -4,11 +4,6 @@ use borrow.Author.Needs.{needs}
 use Rattle.entries.proofs.lists.mark.Statement.{statement}
 use Rattle.entries.proofs.lists.mark.Tie as tie
 
-returns : tie.Need-returns
-returns c d x is here =
-    let s = c .before .before .before in
-    bit-set d x is (s .pre .1) here (c .marked .ensures)
-
 pub mark-spec : {M : Type 1} → statement M
 mark-spec =
     tie.close
@@ -22,4 +17,4 @@ mark-spec =
     (λ c. search needs)
     (λ c. search needs)
     (λ c. search needs)
-    returns)
+    (λ c. search bit-set))

@@ -32,24 +32,6 @@ length-j c =
     let a = at-start (after-start-of2 (after-to-end (c .before) .before) .before .before) .args in
     omega (arith, list-within (a .dir .now) (a .j) (omega arith))
 
-returns : tie.Need-returns
-returns c d e e′ es is front page new =
-    let t = after-to-end (c .before) in
-    let z = after-start-of2 (t .before) in
-    let a = z .before .before in
-    let h = at-start a .pre .1 in
-    head-to-other-tail d e′ (h .0) (h .1) (h .2) is front page new
-    (a .start-of .ensures) (z .start-of2 .ensures) (t .to-end .ensures) (c .if1 .taken)
-
-returns-2 : tie.Need-returns-2
-returns-2 c d e e′ es is front page new =
-    let t = after-to-end (c .before) in
-    let z = after-start-of2 (t .before) in
-    let a = z .before .before in
-    let h = at-start a .pre .1 in
-    head-to-own-tail d e′ (h .0) (h .1) (h .2) is front page new
-    (a .start-of .ensures) (z .start-of2 .ensures) (t .to-end .ensures) (c .if1 .left)
-
 pub move-head-spec : {M : Type 1} → statement M
 move-head-spec =
     tie.close
@@ -73,6 +55,6 @@ move-head-spec =
     (λ c. search needs)
     (λ c. simp length-set (omega arith))
     (λ c. search needs)
-    returns
+    (λ c. search head-to-other-tail)
     (λ c. search needs)
-    returns-2)
+    (λ c. search head-to-own-tail))

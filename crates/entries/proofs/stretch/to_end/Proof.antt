@@ -18,9 +18,6 @@ same-length c =
     let flagged = set (x .dir .now) (x .a + 1) (x .flags) in
     simp length-set at (same-len-mid (x .a) (x .e - x .a) flagged (t .turn .last .0) (t .turn .kept .0))
 
-returns : tie.Need-returns
-returns c P M R h f x p q = carried P M R h f _ _ _ p q _ _ x (c .before .before .turn .ensures)
-
 pub to-end-spec : {M : Type 1} → statement M
 to-end-spec =
     tie.close
@@ -34,4 +31,4 @@ to-end-spec =
     (λ c. search needs)
     (λ c κs. search needs)
     same-length
-    returns)
+    (λ c. search carried))
