@@ -44,11 +44,6 @@ eight c = has-header (c .before) .if1 .left
 policy : (c : tie.Else2) → knownPolicy (getD (w c) 0 0) ≡ true
 policy c = test-holds (c .before .known-policy .ensures) (c .if2 .left)
 
-returns-3 : tie.Need-returns-3
-returns-3 c =
-    let e = policy-known (c .before) in
-    check-size _ (eight e) (policy e) (test-fails (c .before .known-size .ensures) (c .if3 .taken))
-
 sized : (c : tie.Else3) → knownSize (size (w (policy-known (c .before)))) ≡ true
 sized c = test-holds (c .before .known-size .ensures) (c .if3 .left)
 
@@ -94,7 +89,7 @@ check-spec =
     (λ c. search (check-policy, test-fails))
     (λ c. search needs)
     (λ c κs. search needs)
-    returns-3
+    (λ c. search (check-size, test-holds, test-fails))
     (λ c. search needs)
     (λ c κs. search needs)
     mul-if4

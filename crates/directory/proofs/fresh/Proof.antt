@@ -26,11 +26,6 @@ size-known c = c .before .before .before .before
 policy : (c : tie.Else1) → knownPolicy (c .before .before .before .args .policy) ≡ true
 policy c = test-holds (c .before .known-policy .ensures) (c .if1 .left)
 
-returns-2 : tie.Need-returns-2
-returns-2 c =
-    let tested = c .before in
-    fresh-size _ _ _ (policy (tested .before)) (test-fails (tested .known-size .ensures) (c .if2 .taken))
-
 sized : (c : tie.Else2) → knownSize (at-start c .args .c) ≡ true
 sized c = test-holds (c .before .known-size .ensures) (c .if2 .left)
 
@@ -55,7 +50,7 @@ fresh-spec =
     (λ c κs. search needs)
     (λ c. search (fresh-policy, test-fails))
     (λ c κs. search needs)
-    returns-2
+    (λ c. search (fresh-size, test-holds, test-fails))
     (λ c κs. search needs)
     (λ c. search needs)
     (λ c. search needs)
