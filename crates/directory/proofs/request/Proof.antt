@@ -17,4 +17,11 @@ serve-requires c κs = ready _ (accepted-sound _ (sym (after-check c .check .ens
 
 pub request-spec : {M : Type 1} → statement M
 request-spec =
-    tie.close (tie.spec (λ c κs. search needs) (λ c. search needs) (λ c. search requested-refused) serve-requires (λ c. search needs) (λ c. search requested-served))
+    tie.close
+    (tie.spec
+    (λ c κs. search needs)
+    (λ c. search needs)
+    (λ c. search requested-refused)
+    serve-requires
+    (λ c. search needs)
+    (λ c. search requested-served))

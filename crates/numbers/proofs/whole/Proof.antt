@@ -26,4 +26,11 @@ returns-3 c =
 
 pub whole-spec : {M : Type 1} → statement M
 whole-spec =
-    tie.close (tie.spec (λ c κs. search needs) (λ c. search (whole-not-in-form, test-fails)) value-requires returns-2 (λ c. omega arith) returns-3)
+    tie.close
+    (tie.spec
+    (λ c κs. search needs)
+    (λ c. search (whole-not-in-form, test-fails))
+    value-requires
+    returns-2
+    (λ c. omega arith)
+    returns-3)
