@@ -5,8 +5,14 @@ use Rattle.scoring.proofs.Lines.{line-put}
 use Rattle.scoring.proofs.put_request.Statement.{statement}
 use Rattle.scoring.proofs.put_request.Tie as tie
 
+-- The places that are looked back to.
+abbrev at-start : tie.After-write-request → tie.Start
+at-start c = c .before .before .before .before .before .before .before .before .before .before
+
 returns : tie.Need-returns
-returns c = search line-put
+returns c =
+    let written = c .before .before .before in
+    line-put (at-start written .pre) (written .write-request .ensures) (search needs) (c .before .before .out .given .0)
 
 pub put-request-spec : {M : Type 1} → statement M
 put-request-spec =

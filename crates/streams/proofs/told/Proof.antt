@@ -13,10 +13,17 @@ abbrev at-start : tie.After-count → tie.Start
 at-start c = c .before .before .before
 
 end : tie.Need-returns
-end c = search tells-end
+end c =
+    let at-entry = c .before .before in
+    tells-end (at-entry .args .got) (at-entry .fits .got) (omega (arith, c .if1 .taken))
 
 bytes : tie.Need-returns-2
-bytes c = search (tells-bytes, counted)
+bytes c =
+    let after-count = c .before in
+    let at-entry = at-start after-count in
+    tells-bytes (at-entry .args .got) _ _ (at-entry .pre)
+    (counted _ _ _ (at-entry .fits .got) (after-count .count .ensures .1))
+    (λ none. c .if2 .taken (omega (arith, none)))
 
 -- An answer that is not 0 and moved nothing is a failure, of either kind.
 failure : (c : tie.Else2) (r : Got) → IsFailure r → ReadTells (at-start (c .before) .args .got) r
