@@ -1,6 +1,5 @@
-// The public operations on calls that standard input holds one after another; standard output gets what each gave, all
-// in words of four bytes. It ends with the input or after 100,000 calls; at a call that it cannot read it says so and
-// fails.
+// The public operations on calls from standard input; standard output gets what each gave, in words of four bytes.
+// It ends with the input or after 100,000 calls; at a call that it cannot read it says so and fails.
 mod directory_calls;
 mod sheet_calls;
 mod wire;
