@@ -99,8 +99,8 @@ pub fn odd_directory(random: &mut Random, c: usize) -> Vec<u32> {
     let mut dir = vec![0; words_for(c as u32)];
     let q = if policy == CAR { 0 } else { near_limits(random, 2 * c) };
     dir[..4].copy_from_slice(&[policy, c as u32, near_limits(random, c) as u32, q as u32]);
-    let first = random.pick(&[0, 0, 1, u32::MAX - 3 * c as u32]);
-    let mut pages: Vec<u32> = (0..=3 * c as u32).map(|page| first + page).collect();
+    let (first, apart) = random.pick(&[(0, 1), (0, 32_768), (1, 1), (u32::MAX - 3 * c as u32, 1)]);
+    let mut pages: Vec<u32> = (0..=3 * c as u32).map(|page| first + page * apart).collect();
     let percent = random.pick(&[0, 30, 50, 80, 100]);
     let mut at = HEADER;
     for (list, length) in lengths.into_iter().enumerate() {

@@ -211,6 +211,13 @@ fn directories_at_the_limits() {
     show_number(b"CAR with room", directory::check(&room));
 }
 
+// Two pages whose bits are the same in the set by which crate differing tells pages apart; and one of them twice.
+fn pages_of_the_same_bits() {
+    let mut alike = [1u32, 2, 0, 0, 2, 0, 0, 0, 7, 0, 449675271, 0, 0, 0, 0, 0];
+    show_number(b"two pages of the same bits", directory::check(&alike));
+    broken(b"one of them twice", &mut alike, 10, 7);
+}
+
 // A mark, then a run's answer: its number, then requests, hits, misses, evictions and moves.
 fn show_run(mark: &[u8], r: directory::Ran) {
     let t = r.tally;
@@ -281,6 +288,7 @@ fn main() {
     broken_rules_of_car();
     broken_rules_of_cart();
     directories_at_the_limits();
+    pages_of_the_same_bits();
     worked_run(b"worked run, CAR", 1);
     worked_run(b"worked run, CART", 2);
     runs_at_the_ends();

@@ -1,20 +1,20 @@
--- A list searched entry by entry: for a page, for a page that stands in it twice, for a flag.
--- For the loops of `find`, `pages_differ` and `count`, and what a search of list i says of the directory.
-use mathlib.Core.Path.{_≡_, sym, ap, _∙_}
+-- A list searched entry by entry: for a page, for a flag.
+-- For the loops of `find` and `count`, and what a search of list i says of the directory.
+use mathlib.Core.Path.{_≡_, sym, _∙_}
 use mathlib.Core.Bool.{true, false}
 use mathlib.Core.List.{List}
-use Prim.Native.Nat.{ℕ, suc, _+_, _-_, _*_, _≤_, _<_}
+use Prim.Native.Nat.{ℕ, suc, _+_, _*_, _≤_, _<_}
 use native.Mathlib.Omega.{arith}
-use lib.ListN.{length, drop, getD, length-drop}
+use lib.ListN.{drop, getD}
 use borrow.Author.Tests.{eq-eqb, ne-eqb}
-use Rattle.figures.specs.Entry.{Entry, has, differ, total}
+use Rattle.figures.specs.Entry.{Entry, has, total}
 use Rattle.figures.specs.Directory.{Directory, listOf}
 use Rattle.entries.specs.Holds.{Holds}
 use Rattle.entries.specs.Flags.{Says, ofFlag}
 use Rattle.entries.specs.Leaves.{FoundAt, FoundIn}
 use Rattle.entries.specs.Stretches.{nameOf, startOf, index}
 use Rattle.entries.proofs.Laid.{length-of-list}
-use Rattle.entries.proofs.Reading.{Held, held-from, EntryAt, entry-at, told, list-held}
+use Rattle.entries.proofs.Reading.{EntryAt, told, list-held}
 use Rattle.entries.proofs.Indexes.{index-has, index-lacks}
 
 module _ {w : List ℕ} {a : ℕ} {l : List Entry} {i : ℕ} (s : EntryAt w a l i) (x : ℕ) where
@@ -23,29 +23,6 @@ module _ {w : List ℕ} {a : ℕ} {l : List Entry} {i : ℕ} (s : EntryAt w a l 
 
   pub index-later : (getD w (a + 2 * i) 0 ≡ x → ⊥) → index x (drop i l) ≡ suc (index x (drop (i + 1) l))
   index-later not = rw (s .front, ne-eqb (s .here .page) x (λ is. not (s .page-word ∙ is)))
-
--- the page of entry i, looked for among the later entries
-module _ {w : List ℕ} {a n i k : ℕ} {l : List Entry} (h : Held w a l) (many : length l ≡ n) (inside : i < n)
-    (found : FoundAt w (a + 2 * i + 2) (n - i - 1) (getD w (a + 2 * i) 0) k) where
-  abbrev s : EntryAt w a l i
-  s = entry-at h i (omega arith)
-
-  abbrev later : List Entry
-  later = drop (i + 1) l
-
-  length-later : length later ≡ n - i - 1
-  length-later = simp length-drop (omega arith)
-
-  place : k ≡ index (s .here .page) later
-  place =
-      told (held-from h (i + 1) (omega arith)) (found .1) (omega arith) length-later
-      ∙ ap (λ (x : ℕ). index x later) (s .page-word)
-
-  pub differ-not : k < n - i - 1 → differ (drop i l) ≡ false
-  differ-not is = rw (s .front, index-has (s .here .page) later (omega (arith, place, length-later)))
-
-  pub differ-later : n - i - 1 ≤ k → differ (drop i l) ≡ differ (drop (i + 1) l)
-  differ-later is = rw (s .front, index-lacks (s .here .page) later (omega (arith, place, length-later)))
 
 -- What a list counts for by a flag is what its entry i counts for and what the later ones do.
 pub count-more : {w : List ℕ} {a : ℕ} {l : List Entry} {i : ℕ} → EntryAt w a l i → (flag : ℕ) {r : ℕ}

@@ -1,13 +1,12 @@
-// What the words of a list hold: where a page stands, how many entries have a flag, whether flags and pages are in
-// order. Nothing is written.
+// What the words of a list hold: where a page stands, how many entries have a flag, whether flags are in order.
+// Nothing is written.
 ghost use mathlib.Core.Path.{_≡_};
 ghost use Prim.Native.Nat.{_+_, _*_, _≤_};
 ghost use lib.ListN.{length, take, drop};
-ghost use Rattle.figures.specs.Entry.{differ};
 ghost use Rattle.terms.specs.Choice.{allAtMost};
 ghost use Rattle.figures.specs.Words.{mostFlags};
 ghost use Rattle.figures.specs.Sound.{flagWords};
-ghost use Rattle.entries.specs.Leaves.{OfEntries, FoundAt, FlagCounted};
+ghost use Rattle.entries.specs.Leaves.{FoundAt, FlagCounted};
 use crate::flags;
 use crate::header;
 
@@ -63,24 +62,6 @@ pub fn all_zero(dir: &[u32], a: usize) -> bool
     let mut i = a;
     while i < dir.len() {
         if dir[i] != 0 {
-            return false;
-        }
-        i += 1;
-    }
-    true
-}
-
-// Whether the pages of the first n entries differ.
-pub fn pages_differ(dir: &[u32], n: usize) -> bool
-    requires { ⌜ (8 + 2 * n ≤ length (now dir)) × (length (now dir) ≤ 4104) ⌝ }
-    ensures { λ r. ⌜ OfEntries (now (dir .entry)) 8 n (λ l. r ≡ differ l) ⌝ }
-{
-    let mut i = 0;
-    while i < n {
-        let rest = n - i - 1;
-        let page = dir[header::ENTRIES + 2 * i];
-        let at = find(dir, header::ENTRIES + 2 * i + 2, rest, page);
-        if at < rest {
             return false;
         }
         i += 1;

@@ -81,7 +81,7 @@ fn entries_sound(dir: &[u32]) -> bool
 {
     let cached = lists::wide(dir[header::T1_LENGTH]) + lists::wide(dir[header::T2_LENGTH]);
     let remembered = lists::wide(dir[header::B1_LENGTH]) + lists::wide(dir[header::B2_LENGTH]);
-    if !search::pages_differ(dir, cached + remembered) {
+    if !differing::pages_differ(dir, cached + remembered) {
         return false;
     }
     if search::count(dir, header::ENTRIES + 2 * cached, remembered, flags::BIT) != 0 {
