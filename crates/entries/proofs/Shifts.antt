@@ -1,14 +1,13 @@
--- The words of a stretch while they are moved two places to the front, or a word is put in before them.
+-- The words of a stretch while they are moved two places to the front, or to the end.
 -- For the loops of `turn` and `shift_in`, and for the leaves, which name what stands before and after the stretch.
 use mathlib.Core.Path.{_≡_, refl, sym, ap, _∙_}
 use mathlib.Core.List.{List, [], _∷_, _++_, append-assoc, append-nil}
-use Prim.Native.Nat.{ℕ, suc, _+_, _-_, _<_}
-use native.Mathlib.Nat.{add-zero}
+use Prim.Native.Nat.{ℕ, suc, _+_, _-_, _≤_, _<_}
 use native.Mathlib.Numerals.{add-one}
 use native.Mathlib.Omega.{arith}
-use lib.ListN.{length, take, drop, getD, set, length-append, length-drop}
-use lib.Seq.{length-take-le, take-all, take-suc, take-at, drop-cons, drop-at, drop-length, append-snoc}
-use lib.Seq.{getD-append-add, getD-drop, set-at}
+use lib.ListN.{length, take, drop, getD, set, length-append, length-take, length-drop}
+use lib.Seq.{length-take-le, take-all, take-length, take-suc, take-at, drop-cons, drop-at, drop-length, append-snoc}
+use lib.Seq.{getD-append-add, getD-take, getD-drop, set-at}
 use borrow.Rule.Slice.PartMut.{midOf, postOf, putMid}
 
 -- The first i words of Y, then those of l.
@@ -30,9 +29,6 @@ module _ (Y l : List ℕ) (i : ℕ) (y : i < length Y) (h : i < length l) where
       ∙ getD-append-add (take i Y) (drop i l) k 0
       ∙ getD-drop i l k 0
 
-  pub over-read : getD (over Y l i) i 0 ≡ getD l i 0
-  over-read = rw add-zero at (behind 0)
-
   pub over-more : set (over Y l i) i (getD Y i 0) ≡ over Y l (i + 1)
   unfolding over
   over-more =
@@ -42,9 +38,53 @@ module _ (Y l : List ℕ) (i : ℕ) (y : i < length Y) (h : i < length l) where
       ∙ ap (λ (r : List ℕ). r ++ drop (suc i) l) (sym (take-suc Y i 0 y))
       ∙ ap (λ (k : ℕ). over Y l k) (sym (add-one i))
 
-pub over-all : (Y l : List ℕ) → over Y l (length l) ≡ take (length l) Y
+  pub over-less : set (over Y l (i + 1)) i (getD l i 0) ≡ over Y l i
+  unfolding over
+  over-less =
+      let rest = drop (suc i) l in
+      ap (λ (k : ℕ). set (over Y l k) i (getD l i 0)) (add-one i)
+      ∙ ap (λ (r : List ℕ). set (r ++ rest) i (getD l i 0)) (take-suc Y i 0 y)
+      ∙ ap (λ (r : List ℕ). set r i (getD l i 0)) (append-snoc (take i Y) (getD Y i 0) rest)
+      ∙ set-at (take i Y) (getD Y i 0) rest (getD l i 0) i passed
+      ∙ ap (λ (r : List ℕ). take i Y ++ r) (sym (drop-cons l i 0 h))
+
+over-before : (Y l : List ℕ) (i k : ℕ) → k < i → i ≤ length Y → getD (over Y l i) k 0 ≡ getD Y k 0
 unfolding over
-over-all Y l = ap (λ (r : List ℕ). take (length l) Y ++ r) (drop-length l) ∙ append-nil (take (length l) Y)
+over-before Y l i k before fits =
+    sym (getD-take i (over Y l i) k 0 before)
+    ∙ ap (λ (r : List ℕ). getD r k 0) (take-at (take i Y) (drop i l) i (length-take-le i Y fits))
+    ∙ getD-take i Y k 0 before
+
+pub over-all : (Y l : List ℕ) → length Y ≡ length l → Y ≡ over Y l (length Y)
+unfolding over
+over-all Y l same =
+    let rest : drop (length Y) l ≡ [] = rw same (drop-length l) in
+    sym (rw (rest, take-length Y) (append-nil Y))
+
+-- What a shift by two from the end makes of l.
+module _ (page flags : ℕ) (l : List ℕ) where
+  abbrev pub shifted : List ℕ
+  shifted = take (length l) (page ∷ flags ∷ l)
+
+  pub shifted-more : (i : ℕ) → 2 ≤ i → i < length l
+      → set (over l shifted (i + 1)) i (getD (over l shifted (i + 1)) (i - 2) 0) ≡ over l shifted i
+  shifted-more i two h =
+      let all = page ∷ flags ∷ l in
+      let on : 2 + (i - 2) ≡ i = omega arith in
+      let read : getD (over l shifted (i + 1)) (i - 2) 0 ≡ getD shifted i 0 =
+      over-before l shifted (i + 1) (i - 2) (omega arith) (omega arith)
+      ∙ getD-drop 2 all (i - 2) 0
+      ∙ ap (λ (k : ℕ). getD all k 0) on
+      ∙ sym (getD-take (length l) all i 0 h) in
+      ap (λ (v : ℕ). set (over l shifted (i + 1)) i v) read
+      ∙ over-less l shifted i h (simp length-take (omega arith))
+
+pub shifted-last : (page flags : ℕ) (l : List ℕ) → 2 ≤ length l
+    → set (set (over l (shifted page flags l) 2) 1 flags) 0 page ≡ shifted page flags l
+unfolding over
+shifted-last page flags [] two = absurd (omega arith)
+shifted-last page flags (x ∷ []) two = absurd (omega arith)
+shifted-last page flags (x ∷ y ∷ l) two = refl
 
 -- Of l, i words moved two places to the front.
 pub moved : List ℕ → ℕ → List ℕ
@@ -118,19 +158,21 @@ module _ (P M R : List ℕ) (h f v a e : ℕ) (p : length P ≡ a) (q : a + 2 + 
       ∙ ap (λ (z : List ℕ). putMid a (e - a) z (M ++ (h ∷ v ∷ []))) s
       ∙ put
 
--- A word put in at word a, and the last before word e out.
-module _ (P M R : List ℕ) (h v a e : ℕ) (p : length P ≡ a) (q : a + length M + 1 ≡ e) where
-  pub pushed : (X L : List ℕ) → X ≡ P ++ (M ++ (h ∷ R)) → L ≡ take (length (midOf a (e - a) X)) (v ∷ midOf a (e - a) X)
-      → putMid a (e - a) X L ≡ P ++ (v ∷ (M ++ R))
+-- An entry put in at word a, and the last before word e out.
+module _ (P M R : List ℕ) (h f u v a e : ℕ) (p : length P ≡ a) (q : a + length M + 2 ≡ e) where
+  pub pushed : (X L : List ℕ) → X ≡ P ++ (M ++ (h ∷ f ∷ R))
+      → L ≡ take (length (midOf a (e - a) X)) (u ∷ v ∷ midOf a (e - a) X)
+      → putMid a (e - a) X L ≡ P ++ (u ∷ v ∷ (M ++ R))
   pushed X L x l =
-      let mid = M ++ (h ∷ []) in
-      let longer : length mid ≡ length M + 1 = length-append M (h ∷ []) in
+      let mid = M ++ (h ∷ f ∷ []) in
+      let longer : length mid ≡ length M + 2 = length-append M (h ∷ f ∷ []) in
       let n : length mid ≡ e - a = omega arith in
       let from-a : drop a X ≡ mid ++ R =
-      ap (λ (z : List ℕ). drop a z) x ∙ drop-at P (M ++ (h ∷ R)) a p ∙ sym (append-snoc M h R) in
+      ap (λ (z : List ℕ). drop a z) x ∙ drop-at P (M ++ (h ∷ f ∷ R)) a p ∙ sym (append-assoc M (h ∷ f ∷ []) R) in
       let m : midOf a (e - a) X ≡ mid = ap (λ (z : List ℕ). take (e - a) z) from-a ∙ take-at mid R (e - a) n in
       let s : postOf a (e - a) X ≡ R = ap (λ (z : List ℕ). drop (e - a) z) from-a ∙ drop-at mid R (e - a) n in
-      let k : L ≡ v ∷ M =
-      l ∙ ap (λ (z : List ℕ). take (length z) (v ∷ z)) m ∙ take-at (v ∷ M) (h ∷ []) (length mid) (omega arith) in
-      let f : take a X ≡ P = ap (λ (z : List ℕ). take a z) x ∙ take-at P (M ++ (h ∷ R)) a p in
-      rw (s, f, k)
+      let k : L ≡ u ∷ v ∷ M =
+      l ∙ ap (λ (z : List ℕ). take (length z) (u ∷ v ∷ z)) m
+      ∙ take-at (u ∷ v ∷ M) (h ∷ f ∷ []) (length mid) (omega arith) in
+      let front : take a X ≡ P = ap (λ (z : List ℕ). take a z) x ∙ take-at P (M ++ (h ∷ f ∷ R)) a p in
+      rw (s, front, k)

@@ -35,28 +35,26 @@ pub fn to_end(dir: &mut [u32], a: usize, e: usize, flags: u32)
     turn(&mut dir[a..e]);
 }
 
-// Puts x in front of the words of s, the last of which falls out.
-fn shift_in(s: &mut [u32], x: u32)
-    ensures { λ _. ⌜ now (s .exit) ≡ take (length (now (s .entry))) (x ∷ now (s .entry)) ⌝ }
+// Puts an entry in front of the words of s, the last two of which fall out: one shift from the end.
+fn shift_in(s: &mut [u32], page: u32, flags: u32)
+    requires { ⌜ 2 ≤ length (now s) ⌝ }
+    ensures { λ _. ⌜ now (s .exit) ≡ take (length (now (s .entry))) (page ∷ flags ∷ now (s .entry)) ⌝ }
 {
-    let n = s.len();
-    let mut held = x;
-    let mut i = 0;
-    while i < n {
-        let next = s[i];
-        s[i] = held;
-        held = next;
-        i += 1;
+    let mut i = s.len();
+    while 2 < i {
+        i -= 1;
+        s[i] = s[i - 2];
     }
+    s[1] = flags;
+    s[0] = page;
 }
 
 // Puts an entry in at word a; the last entry before word e falls out.
 pub fn put_in(dir: &mut [u32], a: usize, e: usize, page: u32, flags: u32)
-    requires { ⌜ (a ≤ e) × (e ≤ length (now dir)) ⌝ }
+    requires { ⌜ (a + 2 ≤ e) × (e ≤ length (now dir)) ⌝ }
     ensures { λ _. ⌜ PutIn a e page flags (now (dir .entry)) (now (dir .exit)) ⌝ }
 {
-    shift_in(&mut dir[a..e], flags);
-    shift_in(&mut dir[a..e], page);
+    shift_in(&mut dir[a..e], page, flags);
 }
 
 // Takes the entry at word a out of the words before e, and leaves two zeros at their end.
