@@ -26,7 +26,7 @@ differ-from (suc i) (e ∷ l) not = go (has (e .page) l) (differ-from i l not)
     go true h = refl
     go false h = h
 
-pub noted-kept : {page : ℕ} {seen seen′ : List ℕ} → BitsKept seen seen′ → Noted page seen → Noted page seen′
+noted-kept : {page : ℕ} {seen seen′ : List ℕ} → BitsKept seen seen′ → Noted page seen → Noted page seen′
 noted-kept kept is = record {
   low-set = kept .still-set _ (is .low-set);
   mixed-set = kept .still-set _ (is .mixed-set);

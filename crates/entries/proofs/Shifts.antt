@@ -5,7 +5,7 @@ use mathlib.Core.List.{List, [], _∷_, _++_, append-assoc, append-nil}
 use Prim.Native.Nat.{ℕ, suc, _+_, _-_, _≤_, _<_}
 use native.Mathlib.Numerals.{add-one}
 use native.Mathlib.Omega.{arith}
-use lib.ListN.{length, take, drop, getD, set, length-append, length-take, length-drop}
+use lib.ListN.{length, take, drop, getD, set, length-append, length-take, length-drop, List·getD-append}
 use lib.Seq.{length-take-le, take-all, take-length, take-suc, take-at, drop-cons, drop-at, drop-length, append-snoc}
 use lib.Seq.{getD-append-add, getD-take, getD-drop, set-at}
 use borrow.Rule.Slice.PartMut.{midOf, postOf, putMid}
@@ -51,9 +51,8 @@ module _ (Y l : List ℕ) (i : ℕ) (y : i < length Y) (h : i < length l) where
 over-before : (Y l : List ℕ) (i k : ℕ) → k < i → i ≤ length Y → getD (over Y l i) k 0 ≡ getD Y k 0
 unfolding over
 over-before Y l i k before fits =
-    sym (getD-take i (over Y l i) k 0 before)
-    ∙ ap (λ (r : List ℕ). getD r k 0) (take-at (take i Y) (drop i l) i (length-take-le i Y fits))
-    ∙ getD-take i Y k 0 before
+    let long : length (take i Y) ≡ i = length-take-le i Y fits in
+    List·getD-append (take i Y) (drop i l) 0 k (omega arith) ∙ getD-take i Y k 0 before
 
 pub over-all : (Y l : List ℕ) → length Y ≡ length l → Y ≡ over Y l (length Y)
 unfolding over
