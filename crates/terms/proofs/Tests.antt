@@ -1,5 +1,5 @@
 -- Tests read as facts: `simp reads` turns a list of tests that all hold into a product of facts, and back.
--- A test by `||` is not read; split it by cases. At the end, a test that a function answered.
+-- A test by `||` is not read; split it by cases. At the end, two tests that agree, and a test that a function answered.
 use mathlib.Core.Path.{_≡_, refl, sym, _∙_}
 use mathlib.Core.Bool.{Bool, true, false, not, false≢true, and-eq-true-iff}
 use mathlib.Core.Logic.{_↔_}
@@ -30,6 +30,12 @@ unless-iff true b = (λ h. absurd (false≢true h), λ h. sym (h .0))
 unless-iff false b = (λ h. (refl, h), λ h. h .1)
 
 pub ruleset reads = (both-iff, when-iff, unless-iff, and-eq-true-iff, leb-iff, ltb-iff, eqb-iff)
+
+-- Two tests of which each holds where the other does.
+pub agree : (a b : Bool) → (a ≡ true → b ≡ true) → (b ≡ true → a ≡ true) → a ≡ b
+agree true b h i = sym (h refl)
+agree false true h i = i refl
+agree false false h i = refl
 
 -- What `if !answer` tells of the test that was answered.
 module _ {answer test : Bool} (said : answer ≡ test) where

@@ -1,8 +1,9 @@
 -- Limits, policies and refusal numbers at their edges, each as document 01 says it.
 use mathlib.Core.Path.{_≡_}
 use mathlib.Core.Bool.{true, false}
+use mathlib.Core.Logic.{_↔_}
 use mathlib.Core.List.{List, [], _∷_}
-use Prim.Native.Nat.{ℕ}
+use Prim.Native.Nat.{ℕ, _≤_}
 use Rattle.terms.specs.Limits.{mostPages, mostSheetBytes, leastResultBytes, knownSize}
 use Rattle.terms.specs.Policies.{knownPolicy, policyName}
 use Rattle.terms.specs.Refusals.{accepted, policyNotKnown, sizeNotKnown, wrongLength, notSound, tooManyPages}
@@ -18,14 +19,17 @@ pub record Edges : Type 0 where
   pub sheet : mostSheetBytes ≡ 16000
   pub result : leastResultBytes ≡ 256
 
--- "1 CAR, 2 CART"; "car or cart"
+-- "1 CAR, 2 CART"; "FIFO, CLOCK and LRU as policies 3, 4 and 5 (`fifo`, `clock`, `lru`)"
 pub record PolicyNumbers : Type 0 where
-  pub not-0 : knownPolicy 0 ≡ false
-  pub car-is-1 : knownPolicy 1 ≡ true
-  pub cart-is-2 : knownPolicy 2 ≡ true
-  pub not-3 : knownPolicy 3 ≡ false
   pub car-named : policyName 1 ≡ "car"
   pub cart-named : policyName 2 ≡ "cart"
+  pub fifo-named : policyName 3 ≡ "fifo"
+  pub clock-named : policyName 4 ≡ "clock"
+  pub lru-named : policyName 5 ≡ "lru"
+
+-- "1 now means a policy outside 1 to 5"
+abbrev pub KnownFrom1To5 : Type 0
+KnownFrom1To5 = (n : ℕ) → (knownPolicy n ≡ true) ↔ ((1 ≤ n) × (n ≤ 5))
 
 -- The table of refusals, in its order.
 abbrev pub table : List ℕ

@@ -11,16 +11,31 @@ pub record Named : Type 0 where
   pub number : ℕ
   pub name : String
 
--- Word 0: "1 CAR, 2 CART".
+-- Word 0: "1 CAR, 2 CART"; "FIFO, CLOCK and LRU as policies 3, 4 and 5" (request 1 of 02).
 abbrev pub car : ℕ
 car = 1
 
 abbrev pub cart : ℕ
 cart = 2
 
--- "car or cart"
+abbrev pub fifo : ℕ
+fifo = 3
+
+abbrev pub clock : ℕ
+clock = 4
+
+abbrev pub lru : ℕ
+lru = 5
+
+-- "car or cart"; "(`fifo`, `clock`, `lru`)"
 abbrev pub policies : List Named
-policies = record { number = car; name = "car" } ∷ record { number = cart; name = "cart" } ∷ []
+policies =
+    record { number = car; name = "car" }
+    ∷ record { number = cart; name = "cart" }
+    ∷ record { number = fifo; name = "fifo" }
+    ∷ record { number = clock; name = "clock" }
+    ∷ record { number = lru; name = "lru" }
+    ∷ []
 
 -- Some policy of the list has that number.
 abbrev pub hasNumber : ℕ → List Named → Bool

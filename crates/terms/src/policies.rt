@@ -7,12 +7,24 @@ pub const CAR: u32 = 1;
 
 pub const CART: u32 = 2;
 
+pub const FIFO: u32 = 3;
+
+pub const CLOCK: u32 = 4;
+
+pub const LRU: u32 = 5;
+
 pub const CAR_NAME: [u8; 3] = *b"car";
 
 pub const CART_NAME: [u8; 4] = *b"cart";
 
+pub const FIFO_NAME: [u8; 4] = *b"fifo";
+
+pub const CLOCK_NAME: [u8; 5] = *b"clock";
+
+pub const LRU_NAME: [u8; 3] = *b"lru";
+
 pub fn known_policy(policy: u32) -> bool
     ensures { λ r. ⌜ r ≡ knownPolicy policy ⌝ }
 {
-    policy == CAR || policy == CART
+    CAR <= policy && policy <= LRU
 }
