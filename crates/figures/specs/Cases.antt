@@ -1,5 +1,6 @@
--- The runs that document 01 shows, P1 to P12; traces that show the errors that look right, E1 to E45; and directories
--- that break one rule of soundness, U1 to U28, or stand at its limit, S1 to S7. See docs/FAULTS.md.
+-- The runs that document 01 shows, P1 to P12; traces that show the errors that look right, E1 to E45; FIFO, CLOCK and
+-- LRU, C1 to C15; and directories that break one rule of soundness, U1 to U37, or stand at its limit, S1 to S10. See
+-- docs/FAULTS.md.
 use mathlib.Core.Path.{_≡_}
 use mathlib.Core.Bool.{Bool, true, false}
 use mathlib.Core.List.{List, [], _∷_, _++_, map}
@@ -7,7 +8,7 @@ use Prim.Native.Nat.{ℕ, _*_, _-_}
 use lib.ListN.{getD, take, drop, replicate}
 use lib.Dec.{eqb}
 use Rattle.terms.specs.Choice.{if_then_else_, ∣_∣, every, same}
-use Rattle.terms.specs.Policies.{car, cart}
+use Rattle.terms.specs.Policies.{car, cart, fifo, clock, lru}
 use Rattle.figures.specs.Directory.{unit, fresh}
 use Rattle.figures.specs.Words.{words}
 use Rattle.figures.specs.Sound.{sound}
@@ -391,9 +392,67 @@ looksRight =
     ∷ case cart 2 (first 8) (tallied 8 2 6 4 9 ∷ [])
     ∷ []
 
+-- Request 1 of 02: each evicts and forgets, a hit marks or moves a page or does neither. C1, C2 and so on, in order.
+abbrev pub classics : List Case
+classics =
+    -- C1 FIFO ignores a hit
+    case fifo 2 (first 3) (answered 0 0 0 0 ∷ t1 (1 ∷ 0 ∷ 2 ∷ 0 ∷ []) ∷ [])
+    -- C2 CLOCK sets its bit, and leaves the page where it is
+    ∷ case clock 2 (first 3) (answered 0 0 0 0 ∷ t1 (1 ∷ 1 ∷ 2 ∷ 0 ∷ []) ∷ [])
+    -- C3 LRU moves the page to the tail, bit 0, which is no hand move
+    ∷ case lru 2 (first 3) (answered 0 0 0 0 ∷ t1 (2 ∷ 0 ∷ 1 ∷ 0 ∷ []) ∷ [])
+    -- C4 FIFO evicts the head and forgets it: no other list has a page then
+    ∷ case fifo 2 (first 4) (
+    answered 2 1 1 1
+    ∷ cleared 0
+    ∷ p 0
+    ∷ q 0
+    ∷ t1 (2 ∷ 0 ∷ 3 ∷ 0 ∷ [])
+    ∷ t2 []
+    ∷ b1 []
+    ∷ b2 []
+    ∷ [])
+    -- C5 CLOCK sends page 1 to the tail, bit 0, and evicts page 2: two moves
+    ∷ case clock 2 (first 4) (
+    answered 2 2 1 2
+    ∷ cleared 1
+    ∷ p 0
+    ∷ q 0
+    ∷ t1 (1 ∷ 0 ∷ 3 ∷ 0 ∷ [])
+    ∷ t2 []
+    ∷ b1 []
+    ∷ b2 []
+    ∷ [])
+    -- C6 LRU evicts page 2, too, by one move
+    ∷ case lru 2 (first 4) (
+    answered 2 2 1 1
+    ∷ cleared 0
+    ∷ p 0
+    ∷ q 0
+    ∷ t1 (1 ∷ 0 ∷ 3 ∷ 0 ∷ [])
+    ∷ t2 []
+    ∷ b1 []
+    ∷ b2 []
+    ∷ [])
+    -- C7 a page that was forgotten is a new one when it comes back
+    ∷ case fifo 2 (first 6) (answered 2 2 1 1 ∷ t1 (3 ∷ 0 ∷ 1 ∷ 0 ∷ []) ∷ b1 [] ∷ [])
+    -- C8 CLOCK, all bits set: each is cleared, and the first page is evicted after all
+    ∷ case clock 2 (1 ∷ 2 ∷ 1 ∷ 2 ∷ 3 ∷ []) (answered 2 1 1 3 ∷ cleared 2 ∷ t1 (2 ∷ 0 ∷ 3 ∷ 0 ∷ []) ∷ [])
+    -- C9, C10, C11 one page: the head is evicted, by CLOCK after a move to the tail where it was hit
+    ∷ case fifo 1 (1 ∷ 1 ∷ 2 ∷ []) (answered 2 1 1 1 ∷ t1 (2 ∷ 0 ∷ []) ∷ b1 [] ∷ [])
+    ∷ case clock 1 (1 ∷ 1 ∷ 2 ∷ []) (answered 2 1 1 2 ∷ t1 (2 ∷ 0 ∷ []) ∷ b1 [] ∷ [])
+    ∷ case lru 1 (1 ∷ 1 ∷ 2 ∷ []) (answered 2 1 1 1 ∷ t1 (2 ∷ 0 ∷ []) ∷ b1 [] ∷ [])
+    -- C12, C13, C14 one trace, on which each of the three evicts another page
+    ∷ case fifo 3 (1 ∷ 2 ∷ 1 ∷ 3 ∷ 4 ∷ 5 ∷ []) (answered 2 2 1 1 ∷ t1 (3 ∷ 0 ∷ 4 ∷ 0 ∷ 5 ∷ 0 ∷ []) ∷ [])
+    ∷ case clock 3 (1 ∷ 2 ∷ 1 ∷ 3 ∷ 4 ∷ 5 ∷ []) (answered 2 3 1 1 ∷ t1 (1 ∷ 0 ∷ 4 ∷ 0 ∷ 5 ∷ 0 ∷ []) ∷ [])
+    ∷ case lru 3 (1 ∷ 2 ∷ 1 ∷ 3 ∷ 4 ∷ 5 ∷ []) (answered 2 1 1 1 ∷ t1 (3 ∷ 0 ∷ 4 ∷ 0 ∷ 5 ∷ 0 ∷ []) ∷ [])
+    -- C15 LRU moves a page from the middle, and the others keep their order
+    ∷ case lru 4 (1 ∷ 2 ∷ 3 ∷ 4 ∷ 2 ∷ []) (answered 0 0 0 0 ∷ t1 (1 ∷ 0 ∷ 3 ∷ 0 ∷ 4 ∷ 0 ∷ 2 ∷ 0 ∷ []) ∷ [])
+    ∷ []
+
 -- "P1 to P12 are proved about the definitions together, as one statement over a list."
 abbrev pub CasesHold : Type 0
-CasesHold = every (map holds (p1ToP12 ++ looksRight)) ≡ true
+CasesHold = every (map holds (p1ToP12 ++ (looksRight ++ classics))) ≡ true
 
 -- Directories in words. Each breaks the one rule of soundness that is named before it, all but U9 by one step.
 abbrev pub unsound : List (List ℕ)
@@ -404,8 +463,8 @@ unsound =
     ∷ (1 ∷ 2 ∷ 0 ∷ 0 ∷ 0 ∷ 0 ∷ 0 ∷ 0 ∷ 0 ∷ 0 ∷ 0 ∷ 0 ∷ 0 ∷ 0 ∷ 0 ∷ 0 ∷ 0 ∷ [])
     -- U3 policy 0
     ∷ (0 ∷ 2 ∷ 0 ∷ 0 ∷ 0 ∷ 0 ∷ 0 ∷ 0 ∷ 0 ∷ 0 ∷ 0 ∷ 0 ∷ 0 ∷ 0 ∷ 0 ∷ 0 ∷ [])
-    -- U4 policy 3
-    ∷ (3 ∷ 2 ∷ 0 ∷ 0 ∷ 0 ∷ 0 ∷ 0 ∷ 0 ∷ 0 ∷ 0 ∷ 0 ∷ 0 ∷ 0 ∷ 0 ∷ 0 ∷ 0 ∷ [])
+    -- U4 policy 6
+    ∷ (6 ∷ 2 ∷ 0 ∷ 0 ∷ 0 ∷ 0 ∷ 0 ∷ 0 ∷ 0 ∷ 0 ∷ 0 ∷ 0 ∷ 0 ∷ 0 ∷ 0 ∷ 0 ∷ [])
     -- U5 c = 0
     ∷ (1 ∷ 0 ∷ 0 ∷ 0 ∷ 0 ∷ 0 ∷ 0 ∷ 0 ∷ [])
     -- U6 c = 1,025
@@ -454,6 +513,24 @@ unsound =
     ∷ (2 ∷ 2 ∷ 1 ∷ 2 ∷ 1 ∷ 1 ∷ 1 ∷ 1 ∷ 4 ∷ 0 ∷ 1 ∷ 2 ∷ 3 ∷ 0 ∷ 2 ∷ 0 ∷ [])
     -- U28 CART, an L page in B1
     ∷ (2 ∷ 2 ∷ 1 ∷ 2 ∷ 1 ∷ 1 ∷ 1 ∷ 1 ∷ 4 ∷ 0 ∷ 1 ∷ 2 ∷ 3 ∷ 2 ∷ 2 ∷ 2 ∷ [])
+    -- U29 CLOCK, p = 1
+    ∷ (4 ∷ 2 ∷ 1 ∷ 0 ∷ 2 ∷ 0 ∷ 0 ∷ 0 ∷ 4 ∷ 0 ∷ 1 ∷ 0 ∷ 0 ∷ 0 ∷ 0 ∷ 0 ∷ [])
+    -- U30 CLOCK, q = 1
+    ∷ (4 ∷ 2 ∷ 0 ∷ 1 ∷ 2 ∷ 0 ∷ 0 ∷ 0 ∷ 4 ∷ 0 ∷ 1 ∷ 0 ∷ 0 ∷ 0 ∷ 0 ∷ 0 ∷ [])
+    -- U31 CLOCK, a page in T2
+    ∷ (4 ∷ 2 ∷ 0 ∷ 0 ∷ 1 ∷ 1 ∷ 0 ∷ 0 ∷ 4 ∷ 0 ∷ 1 ∷ 0 ∷ 0 ∷ 0 ∷ 0 ∷ 0 ∷ [])
+    -- U32 CLOCK, a page in B1
+    ∷ (4 ∷ 2 ∷ 0 ∷ 0 ∷ 2 ∷ 0 ∷ 1 ∷ 0 ∷ 4 ∷ 0 ∷ 1 ∷ 0 ∷ 3 ∷ 0 ∷ 0 ∷ 0 ∷ [])
+    -- U33 CLOCK, a page in B2
+    ∷ (4 ∷ 2 ∷ 0 ∷ 0 ∷ 2 ∷ 0 ∷ 0 ∷ 1 ∷ 4 ∷ 0 ∷ 1 ∷ 0 ∷ 3 ∷ 0 ∷ 0 ∷ 0 ∷ [])
+    -- U34 CLOCK, a filter bit
+    ∷ (4 ∷ 2 ∷ 0 ∷ 0 ∷ 2 ∷ 0 ∷ 0 ∷ 0 ∷ 4 ∷ 0 ∷ 1 ∷ 2 ∷ 0 ∷ 0 ∷ 0 ∷ 0 ∷ [])
+    -- U35 FIFO, a reference bit
+    ∷ (3 ∷ 2 ∷ 0 ∷ 0 ∷ 2 ∷ 0 ∷ 0 ∷ 0 ∷ 4 ∷ 0 ∷ 1 ∷ 1 ∷ 0 ∷ 0 ∷ 0 ∷ 0 ∷ [])
+    -- U36 LRU, a reference bit
+    ∷ (5 ∷ 2 ∷ 0 ∷ 0 ∷ 2 ∷ 0 ∷ 0 ∷ 0 ∷ 4 ∷ 1 ∷ 1 ∷ 0 ∷ 0 ∷ 0 ∷ 0 ∷ 0 ∷ [])
+    -- U37 FIFO, p = 1
+    ∷ (3 ∷ 2 ∷ 1 ∷ 0 ∷ 2 ∷ 0 ∷ 0 ∷ 0 ∷ 4 ∷ 0 ∷ 1 ∷ 0 ∷ 0 ∷ 0 ∷ 0 ∷ 0 ∷ [])
     ∷ []
 
 -- Directories in words that are sound and stand at the limits named before them.
@@ -473,6 +550,12 @@ atTheLimit =
     ∷ (1 ∷ 1 ∷ 0 ∷ 0 ∷ 0 ∷ 0 ∷ 0 ∷ 0 ∷ 0 ∷ 0 ∷ 0 ∷ 0 ∷ [])
     -- S7 c = 1,024
     ∷ (2 ∷ 1024 ∷ replicate 4102 0)
+    -- S8 FIFO: full, page 0
+    ∷ (3 ∷ 2 ∷ 0 ∷ 0 ∷ 2 ∷ 0 ∷ 0 ∷ 0 ∷ 4 ∷ 0 ∷ 0 ∷ 0 ∷ 0 ∷ 0 ∷ 0 ∷ 0 ∷ [])
+    -- S9 CLOCK: full, all bits set
+    ∷ (4 ∷ 2 ∷ 0 ∷ 0 ∷ 2 ∷ 0 ∷ 0 ∷ 0 ∷ 4 ∷ 1 ∷ 1 ∷ 1 ∷ 0 ∷ 0 ∷ 0 ∷ 0 ∷ [])
+    -- S10 LRU: full
+    ∷ (5 ∷ 2 ∷ 0 ∷ 0 ∷ 2 ∷ 0 ∷ 0 ∷ 0 ∷ 4 ∷ 0 ∷ 1 ∷ 0 ∷ 0 ∷ 0 ∷ 0 ∷ 0 ∷ [])
     ∷ []
 
 abbrev pub notSound : List ℕ → Bool

@@ -3,22 +3,25 @@
 use mathlib.Core.Path.{_≡_}
 use mathlib.Core.Bool.{true, false, _||_}
 use mathlib.Core.Logic.{_⊎_}
-use mathlib.Core.List.{List, [], _∷_, _++_}
+use mathlib.Core.List.{List, [], _∷_, _++_, map, reverse}
 use Prim.Native.Nat.{ℕ, zero, suc, _+_, _*_, _≤_, _<_}
+use lib.ListN.{take}
 use Rattle.terms.specs.Choice.{∣_∣}
 use Rattle.terms.specs.Limits.{knownSize}
-use Rattle.terms.specs.Policies.{car, cart, knownPolicy}
+use Rattle.terms.specs.Policies.{car, cart, fifo, clock, lru, knownPolicy}
 use Rattle.figures.specs.Entry.{Entry, bits, short, long, total, has}
 use Rattle.figures.specs.Directory.{Directory, fresh, Name, B1, B2, listOf, withList}
-use Rattle.figures.specs.Directory.{cached, remembered, inCache, t1AtTarget}
+use Rattle.figures.specs.Directory.{cached, remembered, listed, inCache, t1AtTarget}
 use Rattle.figures.specs.Words.{encode, decode}
 use Rattle.figures.specs.Hand.{Hand, begin, Ends, Leads}
 use Rattle.figures.specs.Car as Car
 use Rattle.figures.specs.Cart as Cart
+use Rattle.figures.specs.Classics as Classics
 use Rattle.figures.specs.Policy.{Policy, policyOf}
 use Rattle.figures.specs.Sound.{sound}
 use Rattle.figures.specs.Request.{request}
 use Rattle.figures.specs.Run.{run}
+use Rattle.figures.specs.Recency.{recent, lruHolding}
 
 abbrev pub Sound : Directory → Type 0
 Sound d = sound (encode d) ≡ true
@@ -69,9 +72,9 @@ abbrev pub WhenFullUnder : ℕ → (Directory → Type 0) → Type 0
 WhenFullUnder n P = WhenFull (λ d. d .policy ≡ n → P d)
 
 -- "No budget may decide where the defined evict part ends: .. from every sound directory the published stop comes
--- first." The repeat that knows no budget ends where the definition does. CAR's asks for no head that is not there:
--- `Ends` has no rule for that. CART's passes also stop at an empty list; that the demotion has a head is in EvictsOne.
--- [Stops]
+-- first." The repeat that knows no budget ends where the definition does. CAR's and CLOCK's ask for no head that is not
+-- there: `Ends` has no rule for that. CART's passes also stop at an empty list; that the demotion has a head is in
+-- EvictsOne. FIFO and LRU repeat nothing. [Stops]
 abbrev pub CarStops : Directory → Type 0
 CarStops d = Ends Car.choose (begin 0 0 d) (Car.evict d)
 
@@ -80,9 +83,13 @@ pub record CartStops (d : Directory) : Type 0 where
   pub second :
       Ends Cart.secondLook (Cart.firstPass (Cart.counted d)) (Cart.secondPass (Cart.firstPass (Cart.counted d)))
 
+abbrev pub ClockStops : Directory → Type 0
+ClockStops d = Ends Classics.clockLook (begin 0 0 d) (Classics.clockEvict d)
+
 pub record PublishedStopComesFirst : Type 0 where
   pub of-car : WhenFullUnder car CarStops
   pub of-cart : WhenFullUnder cart CartStops
+  pub of-clock : WhenFullUnder clock ClockStops
 
 -- "once T2 is chosen, T1 is not chosen again in that request": whatever hand CAR's looks lead to. [Car]
 abbrev pub T2StaysChosen : Type 0
@@ -110,6 +117,19 @@ pub record EvictedIsRemembered : Type 0 where
   pub of-car : WhenFullUnder car (λ d. remembered (Car.evict d .dir) ≡ remembered d + 1)
   pub of-cart : WhenFullUnder cart (λ d. remembered (Cart.evict d .dir) ≡ remembered d + 1)
 
+-- "The head is evicted and forgotten": under FIFO, CLOCK and LRU no list has the page then. [Stops]
+abbrev pub Forgotten : Hand → Type 0
+Forgotten h = has (h .page) (listed (h .dir)) ≡ false
+
+pub record EvictedIsForgotten : Type 0 where
+  pub of-fifo : WhenFullUnder fifo (λ d. Forgotten (Classics.evict d))
+  pub of-clock : WhenFullUnder clock (λ d. Forgotten (Classics.clockEvict d))
+  pub of-lru : WhenFullUnder lru (λ d. Forgotten (Classics.evict d))
+
+-- What the three share: where no reference bit is set, CLOCK's evict part is FIFO's and LRU's. [Classics]
+abbrev pub ClearClockEvicts : Type 0
+ClearClockEvicts = (d : Directory) → inCache bits d ≡ 0 → Classics.clockEvict d ≡ Classics.evict d
+
 -- "n_S and n_L count the S and L pages in T1 and T2", also as Figure 3 has kept them when the evict part is over.
 -- [Stops]
 abbrev pub CountsKept : Type 0
@@ -118,7 +138,8 @@ CountsKept =
     let h = Cart.evict d in
     (h .nS ≡ inCache short (h .dir)) × (h .nL ≡ inCache long (h .dir)))
 
--- Trim takes no head of an empty list: where its rule drops a head, that head was there. [Stops]
+-- Trim takes no head of an empty list: where its rule drops a head, that head was there. FIFO, CLOCK and LRU trim
+-- nothing. [Stops]
 
 -- Dropping the head of list i makes d′ of d: the head was there, the rest of the list stays, and so does all else.
 pub record HeadDropped (i : Name) (d d′ : Directory) : Type 0 where
@@ -149,22 +170,23 @@ StillRequests =
     (x : ℕ) (d : Directory) → request x d .kind ≤ 1
     → (request x d .page ≡ 0) × (request x d .list ≡ 0) × (request x d .moves ≡ 0)
 
--- "for an evicting CAR request one more than the reference bits cleared" [Moves]
-abbrev pub CarMovesAreBitsCleared : Type 0
-CarMovesAreBitsCleared =
-    (x : ℕ) (d : Directory) → Sound d → d .policy ≡ car → 2 ≤ request x d .kind
+-- "for an evicting CAR request one more than the reference bits cleared": so it is under every policy but CART. [Moves]
+abbrev pub MovesAreBitsCleared : Type 0
+MovesAreBitsCleared =
+    (x : ℕ) (d : Directory) → Sound d → ¬ (d .policy ≡ cart) → 2 ≤ request x d .kind
     → request x d .moves ≡ request x d .cleared + 1
 
--- "no CAR request needs more than c + 1 hand moves, no CART request more than 2c + 1": from every sound directory.
--- [Moves]
+-- "no CAR request needs more than c + 1 hand moves, no CART request more than 2c + 1"; "The single-request bound is 1,
+-- c + 1 and 1" for FIFO, CLOCK and LRU: from every sound directory. [Moves]
 abbrev pub mostMoves : Directory → ℕ
 mostMoves d = rowOf d .mostMoves (d .c)
 
 abbrev pub RequestMovesAtMost : Type 0
 RequestMovesAtMost = (x : ℕ) (d : Directory) → Sound d → request x d .moves ≤ mostMoves d
 
--- "over the whole sequence at most one, respectively two, a request": from every sound directory, with what its set
--- bits, and for CART its L pages in T1, may still cost. [Moves]
+-- "over the whole sequence at most one, respectively two, a request"; "none needs more than one a request" for FIFO,
+-- CLOCK and LRU: from every sound directory, with what its set bits, and for CART its L pages in T1, may still cost.
+-- [Moves]
 abbrev pub movesEach : Directory → ℕ
 movesEach d = rowOf d .movesEach
 
@@ -183,22 +205,32 @@ FromFresh P = (c : ℕ) → 1 ≤ c → c ≤ 1024 → P c
 abbrev pub lastMoves : ℕ → ℕ → List ℕ → ℕ → ℕ
 lastMoves policy c trace x = request x (run trace (fresh policy c) .dir) .moves
 
--- "no CAR request needs more than c + 1 hand moves, no CART request more than 2c + 1" [Moves]
-abbrev pub CarRequestAtMost : Type 0
-CarRequestAtMost = FromFresh (λ c. (trace : List ℕ) (x : ℕ) → lastMoves car c trace x ≤ c + 1)
+-- "no CAR request needs more than c + 1 hand moves, no CART request more than 2c + 1"; "The single-request bound is 1,
+-- c + 1 and 1" [Moves]
+abbrev pub RequestAtMost : ℕ → (ℕ → ℕ) → Type 0
+RequestAtMost policy most = FromFresh (λ c. (trace : List ℕ) (x : ℕ) → lastMoves policy c trace x ≤ most c)
 
-abbrev pub CartRequestAtMost : Type 0
-CartRequestAtMost = FromFresh (λ c. (trace : List ℕ) (x : ℕ) → lastMoves cart c trace x ≤ 2 * c + 1)
+pub record RequestsAtMost : Type 0 where
+  pub of-car : RequestAtMost car (λ c. c + 1)
+  pub of-cart : RequestAtMost cart (λ c. 2 * c + 1)
+  pub of-fifo : RequestAtMost fifo (λ c. 1)
+  pub of-clock : RequestAtMost clock (λ c. c + 1)
+  pub of-lru : RequestAtMost lru (λ c. 1)
 
--- "over the whole sequence at most one, respectively two, a request" [Moves]
-abbrev pub CarRunAtMost : Type 0
-CarRunAtMost = FromFresh (λ c. (trace : List ℕ) → run trace (fresh car c) .tally .moves ≤ ∣ trace ∣)
+-- "over the whole sequence at most one, respectively two, a request"; "over a run from a fresh directory none needs
+-- more than one a request" [Moves]
+abbrev pub RunAtMost : ℕ → ℕ → Type 0
+RunAtMost policy each = FromFresh (λ c. (trace : List ℕ) → run trace (fresh policy c) .tally .moves ≤ each * ∣ trace ∣)
 
-abbrev pub CartRunAtMost : Type 0
-CartRunAtMost = FromFresh (λ c. (trace : List ℕ) → run trace (fresh cart c) .tally .moves ≤ 2 * ∣ trace ∣)
+pub record RunsAtMost : Type 0 where
+  pub of-car : RunAtMost car 1
+  pub of-cart : RunAtMost cart 2
+  pub of-fifo : RunAtMost fifo 1
+  pub of-clock : RunAtMost clock 1
+  pub of-lru : RunAtMost lru 1
 
--- "for every c a sequence reaches each single-request bound": the pages 1 to c, the same again, then a new one.
--- [Reached]
+-- "for every c a sequence reaches each single-request bound": the pages 1 to c, where hits set bits the same again,
+-- then a new one. [Reached]
 abbrev pub pagesFrom : ℕ → ℕ → List ℕ
 pagesFrom x zero = []
 pagesFrom x (suc n) = x ∷ pagesFrom (suc x) n
@@ -206,8 +238,23 @@ pagesFrom x (suc n) = x ∷ pagesFrom (suc x) n
 abbrev pub allTwice : ℕ → List ℕ
 allTwice c = pagesFrom 1 c ++ pagesFrom 1 c
 
-abbrev pub CarReached : Type 0
-CarReached = FromFresh (λ c. lastMoves car c (allTwice c) (c + 1) ≡ c + 1)
+abbrev pub Reaches : ℕ → (ℕ → List ℕ) → (ℕ → ℕ) → Type 0
+Reaches policy trace most = FromFresh (λ c. lastMoves policy c (trace c) (c + 1) ≡ most c)
 
-abbrev pub CartReached : Type 0
-CartReached = FromFresh (λ c. lastMoves cart c (allTwice c) (c + 1) ≡ 2 * c + 1)
+pub record BoundsReached : Type 0 where
+  pub by-car : Reaches car allTwice (λ c. c + 1)
+  pub by-cart : Reaches cart allTwice (λ c. 2 * c + 1)
+  pub by-fifo : Reaches fifo (pagesFrom 1) (λ c. 1)
+  pub by-clock : Reaches clock allTwice (λ c. c + 1)
+  pub by-lru : Reaches lru (pagesFrom 1) (λ c. 1)
+
+-- LRU
+
+-- After an LRU run from a fresh directory of c pages, T1 from tail to head is the last c different pages of the trace,
+-- or all of them where they are fewer; and all else is as it was. [Recency]
+pub record HoldsRecent (c : ℕ) (trace : List ℕ) : Type 0 where
+  pub tail-to-head : map (λ e. e .page) (reverse (run trace (fresh lru c) .dir .t1)) ≡ take c (recent (reverse trace))
+  pub whole : run trace (fresh lru c) .dir ≡ lruHolding c (recent (reverse trace))
+
+abbrev pub LruHoldsRecent : Type 0
+LruHoldsRecent = FromFresh (λ c. (trace : List ℕ) → HoldsRecent c trace)

@@ -59,7 +59,8 @@ toTail i e d = withList i (listOf i d ++ (e ∷ [])) d
 abbrev pub hit : ℕ → Directory → Directory
 hit x d = if has x (d .t1) then withList T1 (mark x (d .t1)) d else withList T2 (mark x (d .t2)) d
 
--- "New: T1's tail, bit 0", and in CART S: line 13 of both figures. The next request counts it into its n_S.
+-- "New: T1's tail, bit 0", and in CART S: line 13 of both figures. The next request counts it into its n_S. FIFO, CLOCK
+-- and LRU place it alike.
 unfoldable pub placeNew : ℕ → Directory → Directory
 placeNew x d = toTail T1 (newShort x) d
 

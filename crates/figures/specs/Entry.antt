@@ -81,6 +81,11 @@ abbrev pub without : ℕ → List Entry → List Entry
 without x [] = []
 without x (e ∷ l) = if eqb (e .page) x then l else e ∷ without x l
 
+-- What that leaves out: the entry of page x, where there is one.
+abbrev pub only : ℕ → List Entry → List Entry
+only x [] = []
+only x (e ∷ l) = if eqb (e .page) x then e ∷ [] else only x l
+
 -- The list without its head.
 abbrev pub dropHead : List Entry → List Entry
 dropHead [] = []

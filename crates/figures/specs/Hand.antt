@@ -1,4 +1,4 @@
--- The evict part's moves of a head to a tail, which both figures share, and the repeat that they stand in.
+-- The evict part's moves of a head, which the policies share, and the repeat that they stand in.
 -- The hand holds the directory of the moment and what is counted on the way.
 use mathlib.Core.Path.{_≡_}
 use mathlib.Core.List.{List}
@@ -74,6 +74,18 @@ demote i j e es h = record {
   list = listWord i;
 }
 
+-- The last one where no history is kept: e, which stood before es in list i, is forgotten.
+abbrev pub forget : Name → Entry → List Entry → Hand → Hand
+forget i e es h = record {
+  dir = withList i es (h .dir);
+  nS = h .nS;
+  nL = h .nL;
+  moves = h .moves + 1;
+  cleared = h .cleared;
+  page = e .page;
+  list = listWord i;
+}
+
 -- What a look at a head comes to: back to the choice, the published stop, or there was no head to look at.
 pub data Look : Type 0 where
   again : Hand → Look
@@ -81,7 +93,7 @@ pub data Look : Type 0 where
   none : Look
 
 -- The published repeat, which knows no budget: from a it ends at z. It has no rule for `none`, to which a look of CAR
--- comes where there is no head; a look of CART comes to a stop there.
+-- or CLOCK comes where there is no head; a look of CART comes to a stop there.
 pub data Ends (look : Hand → Look) : Hand → Hand → Type 0 where
   last : {a z : Hand} → look a ≡ stop z → Ends look a z
   next : {a b z : Hand} → look a ≡ again b → Ends look b z → Ends look a z

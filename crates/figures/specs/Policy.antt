@@ -5,12 +5,13 @@ use mathlib.Core.List.{List}
 use Prim.Native.Nat.{ℕ, _+_, _*_}
 use lib.Dec.{eqb}
 use Rattle.terms.specs.Choice.{if_then_else_}
-use Rattle.terms.specs.Policies.{car, cart}
+use Rattle.terms.specs.Policies.{car, cart, fifo, clock, lru}
 use Rattle.figures.specs.Entry.{bits}
 use Rattle.figures.specs.Directory.{Directory, hit, inCache}
 use Rattle.figures.specs.Hand.{Hand}
 use Rattle.figures.specs.Car as Car
 use Rattle.figures.specs.Cart as Cart
+use Rattle.figures.specs.Classics as Classics
 
 pub record Policy : Type 0 where
   -- word 0 of its directories
@@ -56,6 +57,46 @@ cartPolicy = record {
   owed = Cart.owing;
 }
 
--- The row with that number. No known number is another than these two; CART's row stands for all others.
+-- FIFO and LRU differ in the hit alone.
+abbrev pub clearPolicy : ℕ → (ℕ → Directory → Directory) → Policy
+clearPolicy number hit = record {
+  number = number;
+  ownSound = Classics.clearSound;
+  hit = hit;
+  evict = Classics.evict;
+  trim = Classics.trim;
+  placeB1 = Classics.place;
+  placeB2 = Classics.place;
+  mostMoves = λ c. 1;
+  movesEach = 1;
+  owed = λ d. 0;
+}
+
+abbrev pub fifoPolicy : Policy
+fifoPolicy = clearPolicy fifo Classics.ignore
+
+abbrev pub lruPolicy : Policy
+lruPolicy = clearPolicy lru Classics.renew
+
+abbrev pub clockPolicy : Policy
+clockPolicy = record {
+  number = clock;
+  ownSound = Classics.aloneSound;
+  hit = hit;
+  evict = Classics.clockEvict;
+  trim = Classics.trim;
+  placeB1 = Classics.place;
+  placeB2 = Classics.place;
+  mostMoves = λ c. c + 1;
+  movesEach = 1;
+  owed = inCache bits;
+}
+
+-- The row with that number. No known number is another than these five; LRU's row stands for all others.
 abbrev pub policyOf : ℕ → Policy
-policyOf n = if eqb n car then carPolicy else cartPolicy
+policyOf n =
+    if eqb n car then carPolicy
+    else if eqb n cart then cartPolicy
+    else if eqb n fifo then fifoPolicy
+    else if eqb n clock then clockPolicy
+    else lruPolicy

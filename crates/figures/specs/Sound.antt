@@ -45,7 +45,7 @@ sound w =
     ∷ noneOf bits (decode w .b1 ++ decode w .b2)
     -- "unused words are zero"
     ∷ allAtMost 0 (unused w)
-    -- "for CAR also .."; "for CART also .."
+    -- "for CAR also .."; "for CART also .."; request 1 of 02: "All use T1 alone .."
     ∷ policyOf (getD w 0 0) .ownSound w
     ∷ [])
 
