@@ -22,7 +22,7 @@ use Rattle.laws.proofs.Repeats.{ComesTo, EndsWith, repeat-ends}
 use Rattle.laws.proofs.Facts.{Shared, CarFacts, Opened, Trimmed, Left}
 use Rattle.laws.proofs.Placing.{Open, came-back}
 use Rattle.laws.proofs.Turns.{holding, Turned, not-turned, turnedTo, Exchanged, turned-on, by-choice}
-use Rattle.laws.proofs.Turns.{Demoted, evicted-t1, evicted-t2, dropped-b1, dropped-b2}
+use Rattle.laws.proofs.Turns.{Vacated, evicted-t1, evicted-t2, dropped-b1, dropped-b2}
 use Rattle.laws.proofs.Turns.{trimmed-not, trimmed-b1, trimmed-b2}
 
 -- The accounts that a hand keeps; what looks keep, and what the last one leaves, which moves and clears no bit.
@@ -36,7 +36,7 @@ record CarTurning (d : Directory) (a : Hand) : Type 0 where
   accounted : CarAccounted 0 a
 
 record CarOutcome (d : Directory) (z : Hand) : Type 0 where
-  evicted : Demoted d z
+  evicted : Vacated 1 d z
   accounted : CarAccounted 1 z
 
 abbrev left : Hand → ℕ

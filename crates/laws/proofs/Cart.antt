@@ -26,7 +26,7 @@ use Rattle.laws.proofs.Repeats.{ComesTo, EndsWith, repeat-ends}
 use Rattle.laws.proofs.Facts.{Shared, CartFacts, Opened, Trimmed, Left}
 use Rattle.laws.proofs.Placing.{Open, came-back}
 use Rattle.laws.proofs.Turns.{holding, Turned, not-turned, turnedTo, Exchanged, turned-on, by-choice}
-use Rattle.laws.proofs.Turns.{Demoted, evicted-t1, evicted-t2, dropped-b1, dropped-b2}
+use Rattle.laws.proofs.Turns.{Vacated, evicted-t1, evicted-t2, dropped-b1, dropped-b2}
 use Rattle.laws.proofs.Turns.{trimmed-not, trimmed-b1, trimmed-b2}
 
 pub cost-at-most-two : (e : Entry) → cost e ≤ 2
@@ -178,7 +178,7 @@ module _ (d : Directory) where
 -- What the evict part leaves.
 
 record CartOutcome (d : Directory) (z : Hand) : Type 0 where
-  evicted : Demoted d z
+  evicted : Vacated 1 d z
   accounted : CartAccounted (1 + owing d) z
 
 module _ (d : Directory) (shared : Shared d) (own : CartFacts d) (full : cached d ≡ d .c) where

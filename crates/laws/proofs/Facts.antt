@@ -32,6 +32,18 @@ pub record CartFacts (d : Directory) : Type 0 where
   pub t2-b2-long : total short (d .t2) + total short (d .b2) ≡ 0
   pub b1-short : total long (d .b1) ≡ 0
 
+-- "All use T1 alone; p, q and the other lists are empty or zero, filter bits clear."
+pub record AloneFacts (d : Directory) : Type 0 where
+  pub p-zero : d .p ≡ 0
+  pub q-zero : d .q ≡ 0
+  pub others-empty : ∣ d .t2 ∣ + remembered d ≡ 0
+  pub none-long : total long (d .t1) ≡ 0
+
+-- "FIFO's and LRU's bits stay 0."
+pub record ClearFacts (d : Directory) : Type 0 where
+  pub alone : AloneFacts d
+  pub bits-clear : total bits (d .t1) ≡ 0
+
 -- What all policies share.
 pub record Shared (d : Directory) : Type 0 where
   pub bounds : Bounds (d .c) (d .p)

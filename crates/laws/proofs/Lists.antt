@@ -1,4 +1,5 @@
--- What a list of entries counts for: at a tail, without a page, with a bit set, without its head.
+-- What a list of entries counts for: at a tail, without a page, with a page moved to the tail or its bit set, without
+-- its head.
 -- Each law is over any count, so that sizes, bits, filters and pages are counted by the same ones.
 use mathlib.Core.Path.{_≡_, refl, ap, _∙_}
 use mathlib.Core.Bool.{Bool, true, false, true≢false, false≢true}
@@ -11,7 +12,7 @@ use borrow.Author.Tests.{eq-eqb}
 use Rattle.terms.specs.Choice.{if_then_else_, ∣_∣}
 use Rattle.terms.proofs.Choice.{either}
 use Rattle.figures.specs.Entry.{Entry, Filter, S, L, marked, bits, shortOf, longOf, short, long}
-use Rattle.figures.specs.Entry.{total, has, mark, without, dropHead}
+use Rattle.figures.specs.Entry.{total, has, mark, without, only, dropHead}
 
 -- 1 where the entry is for page x.
 abbrev pub is : ℕ → Entry → ℕ
@@ -27,6 +28,10 @@ pub record HasHead (l : List Entry) : Type 0 where
 pub has-head : (l : List Entry) → 1 ≤ ∣ l ∣ → HasHead l
 has-head [] h = absurd (omega arith)
 has-head (e ∷ es) h = record { head = e; rest = es; front = refl; rest-is = refl }
+
+pub empty : (l : List Entry) → ∣ l ∣ ≡ 0 → l ≡ []
+empty [] none = refl
+empty (e ∷ l) none = absurd (omega arith)
 
 pub length-tail : (l : List Entry) (e : Entry) → ∣ l ++ (e ∷ []) ∣ ≡ ∣ l ∣ + 1
 length-tail l e = length-append l (e ∷ []) ∙ omega arith
@@ -72,6 +77,20 @@ module _ (count : Entry → ℕ) where
       let h = total-without x l in
       either (λ w. total count w ≤ count e + total count l) (eqb (e .page) x) (omega arith) (omega arith)
 
+  -- A page taken out and put in again at the tail: nothing is lost, whatever is counted.
+  total-only : (x : ℕ) (l : List Entry) → total count (without x l) + total count (only x l) ≡ total count l
+  total-only x [] = refl
+  total-only x (e ∷ l) = go (eqb (e .page) x) (total-only x l)
+    where
+      go : (b : Bool) → total count (without x l) + total count (only x l) ≡ total count l
+          → total count (if b then l else e ∷ without x l) + total count (if b then e ∷ [] else only x l)
+          ≡ count e + total count l
+      go true h = omega arith
+      go false h = omega arith
+
+  pub total-renewed : (x : ℕ) (l : List Entry) → total count (without x l ++ only x l) ≡ total count l
+  total-renewed x l = total-append (without x l) (only x l) ∙ total-only x l
+
   pub total-marked-same : ((e : Entry) → count (marked e) ≡ count e) → (x : ℕ) (l : List Entry)
       → total count (mark x l) ≡ total count l
   total-marked-same same x [] = refl
@@ -94,6 +113,9 @@ length-head-dropped (e ∷ l) = omega arith
 pub length-marked : (x : ℕ) (l : List Entry) → ∣ mark x l ∣ ≡ ∣ l ∣
 length-marked x [] = refl
 length-marked x (e ∷ l) = either (λ m. ∣ m ∣ ≡ suc ∣ l ∣) (eqb (e .page) x) refl (ap suc (length-marked x l))
+
+pub length-renewed : (x : ℕ) (l : List Entry) → ∣ without x l ++ only x l ∣ ≡ ∣ l ∣
+length-renewed x l = omega (arith, total-renewed one x l, length-counts (without x l ++ only x l), length-counts l)
 
 pub length-without-at-most : (x : ℕ) (l : List Entry) → ∣ without x l ∣ ≤ ∣ l ∣
 length-without-at-most x l = omega (arith, total-without one x l, length-counts (without x l), length-counts l)

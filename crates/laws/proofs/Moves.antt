@@ -7,24 +7,22 @@ use Prim.Native.Nat.{ℕ, _+_, _*_, _≤_}
 use native.Mathlib.Omega.{arith}
 use borrow.Author.Tests.{eqb-true}
 use Rattle.terms.specs.Choice.{∣_∣}
-use Rattle.terms.specs.Policies.{car, cart, knownPolicy}
+use Rattle.terms.specs.Policies.{car, cart, fifo, clock, lru, knownPolicy}
 use Rattle.terms.proofs.Tests.{reads}
 use Rattle.figures.specs.Directory.{Directory, fresh, cached}
 use Rattle.figures.specs.Hand.{Hand}
-use Rattle.figures.specs.Policy.{Policy, carPolicy, policyOf}
+use Rattle.figures.specs.Policy.{Policy, policyOf}
 use Rattle.figures.specs.Request.{Served, serve, request}
 use Rattle.figures.specs.Run.{Tally, zeroTally, noted, runFrom, run}
-use Rattle.figures.specs.Demands.{Sound, rowOf, StillRequests, CarMovesAreBitsCleared, mostMoves, RequestMovesAtMost}
-use Rattle.figures.specs.Demands.{movesEach, owed, RunMovesAtMost}
-use Rattle.figures.specs.Demands.{lastMoves, CarRequestAtMost, CartRequestAtMost, CarRunAtMost, CartRunAtMost}
+use Rattle.figures.specs.Demands.{Sound, rowOf, StillRequests, MovesAreBitsCleared, mostMoves, RequestMovesAtMost}
+use Rattle.figures.specs.Demands.{movesEach, owed, RunMovesAtMost, lastMoves, RequestsAtMost, RunsAtMost}
 use Rattle.laws.proofs.Facts.{Shared}
 use Rattle.laws.proofs.Soundness.{facts}
 use Rattle.laws.proofs.Requests.{serve-by-cases, missed-by-cases, missed-moves, after, run-after}
-use Rattle.laws.proofs.Car.{car-moves}
 use Rattle.laws.proofs.Laws.{Pays}
 use Rattle.laws.proofs.Kept.{laws, owns, request-keeps, fresh-is-sound}
 use Rattle.laws.proofs.Kept.{run-keeps, run-same-policy, run-same-size}
-use Rattle.laws.proofs.Stops.{car-facts}
+use Rattle.laws.proofs.Stops.{evict-moves-are-bits}
 
 pub still-requests : StillRequests
 still-requests x d =
@@ -50,15 +48,14 @@ request-moves-at-most x d s =
     moves-by (rowOf d) x d (λ m. m ≤ mostMoves d) (omega arith)
     (λ full. laws d s .moves-at-most d (facts d s .shared) (owns d s) full)
 
-pub car-moves-are-bits-cleared : CarMovesAreBitsCleared
-car-moves-are-bits-cleared x d s is-car =
-    subst (λ (n : ℕ). Cleared (serve (policyOf n) x d)) (sym is-car)
-    (serve-by-cases carPolicy x d Cleared
+pub moves-are-bits-cleared : MovesAreBitsCleared
+moves-are-bits-cleared x d s not-cart =
+    serve-by-cases (rowOf d) x d Cleared
     (λ found evicts. absurd (omega arith))
     (λ not-found room evicts. absurd (omega arith))
     (λ not-found full.
-    let m = car-moves d (facts d s .shared) (car-facts d s is-car) (eqb-true (cached d) (d .c) full) in
-    missed-by-cases carPolicy x _ Cleared (λ in-b1 evicts. m) (λ not-b1 in-b2 evicts. m) (λ not-b1 not-b2 evicts. m)))
+    let m = evict-moves-are-bits d s not-cart (eqb-true (cached d) (d .c) full) in
+    missed-by-cases (rowOf d) x _ Cleared (λ in-b1 evicts. m) (λ not-b1 in-b2 evicts. m) (λ not-b1 not-b2 evicts. m))
   where
     Cleared : Served → Type 0
     Cleared s = 2 ≤ s .kind → s .moves ≡ s .cleared + 1
@@ -123,14 +120,20 @@ module _ (policy : ℕ) (known : knownPolicy policy ≡ true) (c : ℕ) (least :
       let owes = laws (fresh policy c) fresh-sound .pays .fresh-owes policy c in
       omega (arith, run-moves-at-most trace (fresh policy c) fresh-sound, owes)
 
-pub car-request-at-most : CarRequestAtMost
-car-request-at-most = last-at-most car refl
+pub requests-at-most : RequestsAtMost
+requests-at-most = record {
+  of-car = last-at-most car refl;
+  of-cart = last-at-most cart refl;
+  of-fifo = last-at-most fifo refl;
+  of-clock = last-at-most clock refl;
+  of-lru = last-at-most lru refl;
+}
 
-pub cart-request-at-most : CartRequestAtMost
-cart-request-at-most = last-at-most cart refl
-
-pub car-run-at-most : CarRunAtMost
-car-run-at-most c least most trace = omega (arith, run-at-most car refl c least most trace)
-
-pub cart-run-at-most : CartRunAtMost
-cart-run-at-most = run-at-most cart refl
+pub runs-at-most : RunsAtMost
+runs-at-most = record {
+  of-car = run-at-most car refl;
+  of-cart = run-at-most cart refl;
+  of-fifo = run-at-most fifo refl;
+  of-clock = run-at-most clock refl;
+  of-lru = run-at-most lru refl;
+}

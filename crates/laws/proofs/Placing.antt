@@ -55,7 +55,7 @@ pub hit-either : (P : Directory → Type 0) (x : ℕ) (d : Directory)
 hit-either P x d in-T1 in-T2 = either P (has x (d .t1)) in-T1 in-T2
 
 -- T1 and T2 hold the same pages afterwards: all that a bit does not count for is as it was.
-same-pages-leave : {Own : Directory → Type 0} (x : ℕ) (d : Directory) (t1 t2 : List Entry) → Shared d
+pub same-pages-leave : {Own : Directory → Type 0} (x : ℕ) (d : Directory) (t1 t2 : List Entry) → Shared d
     → 1 ≤ inCache (is x) d
     → ((count : Entry → ℕ) → ((e : Entry) → count (marked e) ≡ count e)
     → total count t1 + total count t2 ≡ inCache count d)

@@ -1,4 +1,5 @@
--- The pages 1 to c, the same again, then a new one: the last request takes c + 1 moves under CAR and 2c + 1 under CART.
+-- The pages 1 to c, the same again, then a new one: the last request takes c + 1 moves under CAR and CLOCK and 2c + 1
+-- under CART. Under FIFO and LRU it takes one, the first time already.
 -- The directory is followed through the three parts of that trace.
 use mathlib.Core.Path.{_≡_, refl, sym, ap, _∙_}
 use mathlib.Core.Bool.{Bool, true, false}
@@ -7,15 +8,16 @@ use Prim.Native.Nat.{ℕ, zero, suc, _+_, _-_, _*_, _≤_, _<_, max}
 use native.Mathlib.Omega.{arith}
 use borrow.Author.Tests.{eq-eqb, ne-eqb, le-leb}
 use Rattle.terms.specs.Choice.{if_then_else_, ∣_∣}
-use Rattle.terms.specs.Policies.{car, cart}
+use Rattle.terms.specs.Policies.{car, cart, fifo, clock, lru}
 use Rattle.figures.specs.Entry.{Entry, newShort, newLong, marked, bits, short, long, total, has, mark}
 use Rattle.figures.specs.Directory.{Directory, unit, fresh, withLists, withQ, hit, placeNew}
 use Rattle.figures.specs.Hand.{Hand, repeat}
 use Rattle.figures.specs.Car as Car
 use Rattle.figures.specs.Cart as Cart
+use Rattle.figures.specs.Classics as Classics
 use Rattle.figures.specs.Policy.{policyOf}
 use Rattle.figures.specs.Request.{Served, request}
-use Rattle.figures.specs.Demands.{pagesFrom, allTwice, lastMoves, CarReached, CartReached}
+use Rattle.figures.specs.Demands.{pagesFrom, allTwice, lastMoves, Reaches, BoundsReached}
 use Rattle.laws.proofs.Requests.{serve-hit, serve-room, serve-full, missed-moves, after, run-after, after-append}
 use Rattle.laws.proofs.Lists.{is, total-append, counts-has, is-itself}
 
@@ -95,25 +97,31 @@ module _ (policy c : ℕ) where
       let step = requests-old by-marking x l found ∙ ap only marked-one in
       ap (after (pagesFrom (suc x) n)) step ∙ rw same (marks by-marking n (suc k) (suc x) (omega arith))
 
-  -- Both times.
+  -- Once, and both times.
+  fills-once : after (pagesFrom 1 c) (fresh policy c) ≡ only (made newShort 1 c)
+  fills-once = let same : 0 + c ≡ c = omega arith in rw same at (fills c 0 1 refl (omega arith))
+
   fills-and-marks : policyOf policy .hit ≡ hit → after (allTwice c) (fresh policy c) ≡ only (made hitOnce 1 c)
   fills-and-marks by-marking =
       let same : 0 + c ≡ c = omega arith in
-      let filled = rw same at (fills c 0 1 refl (omega arith)) in
-      rw (after-append, filled) (rw same at (marks by-marking c 0 1 refl))
+      rw (after-append, fills-once) (rw same at (marks by-marking c 0 1 refl))
 
   -- The new page: the cache is full, so that the moves are those of the evict part.
-  last-moves : policyOf policy .hit ≡ hit
-      → lastMoves policy c (allTwice c) (c + 1) ≡ policyOf policy .evict (only (made hitOnce 1 c)) .moves
-  last-moves by-marking =
-      let d = only (made hitOnce 1 c) in
+  last-moves : (trace : List ℕ) (f : ℕ → Entry) → ((x : ℕ) → f x .page ≡ x)
+      → after trace (fresh policy c) ≡ only (made f 1 c)
+      → lastMoves policy c trace (c + 1) ≡ policyOf policy .evict (only (made f 1 c)) .moves
+  last-moves trace f named filled =
+      let d = only (made f 1 c) in
       let π = policyOf policy in
-      let lacks : has (c + 1) (made hitOnce 1 c) ≡ false = not-made hitOnce (λ y. refl) c 1 (c + 1) (omega arith) in
-      let full = eq-eqb (∣ made hitOnce 1 c ∣ + 0) c (omega (arith, length-made hitOnce c 1)) in
-      let before = run-after _ (allTwice c) (fresh policy c) ∙ fills-and-marks by-marking in
-      ap (λ (d : Directory). request (c + 1) d .moves) before
+      let lacks : has (c + 1) (made f 1 c) ≡ false = not-made f named c 1 (c + 1) (omega arith) in
+      let full = eq-eqb (∣ made f 1 c ∣ + 0) c (omega (arith, length-made f c 1)) in
+      ap (λ (d : Directory). request (c + 1) d .moves) (run-after _ trace (fresh policy c) ∙ filled)
       ∙ ap (λ (s : Served). s .moves) (serve-full π (c + 1) d (rw lacks) full)
       ∙ missed-moves π (c + 1) (π .evict d)
+
+  last-moves-marked : policyOf policy .hit ≡ hit
+      → lastMoves policy c (allTwice c) (c + 1) ≡ policyOf policy .evict (only (made hitOnce 1 c)) .moves
+  last-moves-marked by-marking = last-moves (allTwice c) hitOnce (λ x. refl) (fills-and-marks by-marking)
 
 -- CAR: each page goes to T2 with its bit cleared, then the first of T2 is demoted.
 module _ (c : ℕ) where
@@ -142,11 +150,11 @@ bits-marked : (n x : ℕ) → total bits (made hitOnce x n) ≡ n
 bits-marked zero x = refl
 bits-marked (suc n) x = let h = bits-marked n (suc x) in omega arith
 
-pub car-reached : CarReached
+car-reached : Reaches car allTwice (λ c. c + 1)
 unfolding Car.evict
 car-reached c some most =
     let budget : total bits (made hitOnce 1 c) + 0 ≡ c = omega (arith, bits-marked c 1) in
-    last-moves car c refl ∙ rw budget (car-turns c c 0 1 0 refl (omega arith) ∙ omega arith)
+    last-moves-marked car c refl ∙ rw budget (car-turns c c 0 1 0 refl (omega arith) ∙ omega arith)
 
 -- CART: each page goes to T1's tail and becomes L; then each goes to T2; then the first of T2 is demoted.
 
@@ -203,12 +211,60 @@ cost-marked : (n x : ℕ) → total Cart.cost (made hitOnce x n) ≡ 2 * n
 cost-marked zero x = refl
 cost-marked (suc n) x = let h = cost-marked n (suc x) in omega arith
 
-pub cart-reached : CartReached
+cart-reached : Reaches cart allTwice (λ c. 2 * c + 1)
 unfolding Cart.evict Cart.firstPass Cart.secondPass repeat
 cart-reached c some most =
     let all = made hitOnce 1 c in
     let begun = passing c (total short all + 0) (total long all + 0) 0 0 0 in
-    last-moves cart c refl
+    last-moves-marked cart c refl
     ∙ ap (λ (t1 : List Entry). movesAfter (suc (total Cart.cost all)) (begun t1 [])) (sym (append-nil all))
     ∙ lengthens c c 0 1 (total Cart.cost all) _ _ 0 0 0 refl (omega arith) (omega (arith, cost-marked c 1))
     ∙ omega arith
+
+-- CLOCK: each page goes to T1's tail with its bit cleared, then the first is forgotten.
+module _ (c : ℕ) where
+  abbrev clocking : ℕ → List Entry → Hand
+  clocking m t1 = record {
+    dir = only clock c t1;
+    nS = 0;
+    nL = 0;
+    moves = m;
+    cleared = m;
+    page = 0;
+    list = 0;
+  }
+
+  clock-turns : (k j x m : ℕ) → x ≡ 1 + j → 1 ≤ j + k
+      → repeat Classics.clockLook (suc k) (clocking m (made hitOnce x k ++ made newShort 1 j)) .moves ≡ m + k + 1
+  unfolding repeat
+  clock-turns zero zero x m e some = absurd (omega arith)
+  clock-turns zero (suc j) x m e some = omega arith
+  clock-turns (suc k) j x m e some =
+      let at-tail = append-assoc (made hitOnce (suc x) k) (made newShort 1 j) (newShort x ∷ []) in
+      let rest = clock-turns k (suc j) (suc x) (m + 1) (omega arith) (omega arith) in
+      rw (at-tail, made-grown newShort j 1 x e) (rest ∙ omega arith)
+
+clock-reached : Reaches clock allTwice (λ c. c + 1)
+unfolding Classics.clockEvict
+clock-reached c some most =
+    let all = made hitOnce 1 c in
+    let budget : total bits all + 0 ≡ c = omega (arith, bits-marked c 1) in
+    let turns = rw append-nil at (clock-turns c c 0 1 0 refl (omega arith)) in
+    last-moves-marked clock c refl ∙ rw budget (turns ∙ omega arith)
+
+-- FIFO and LRU: the first page is forgotten.
+head-forgotten : (policy c : ℕ) → 1 ≤ c → Classics.evict (only policy c (made newShort 1 c)) .moves ≡ 1
+unfolding Classics.evict
+head-forgotten policy zero some = absurd (omega arith)
+head-forgotten policy (suc c) some = refl
+
+pub bounds-reached : BoundsReached
+bounds-reached = record {
+  by-car = car-reached;
+  by-cart = cart-reached;
+  by-fifo = λ c some most.
+      last-moves fifo c (pagesFrom 1 c) newShort (λ x. refl) (fills-once fifo c) ∙ head-forgotten fifo c some;
+  by-clock = clock-reached;
+  by-lru = λ c some most.
+      last-moves lru c (pagesFrom 1 c) newShort (λ x. refl) (fills-once lru c) ∙ head-forgotten lru c some;
+}

@@ -3,7 +3,7 @@
 use mathlib.Core.Path.{_≡_, refl}
 use Prim.Native.Nat.{ℕ, zero, suc, _<_}
 use native.Mathlib.Omega.{arith}
-use Rattle.figures.specs.Hand.{Hand, Look, again, stop, none, Ends, last, next, onward, repeat}
+use Rattle.figures.specs.Hand.{Hand, Look, again, stop, none, Ends, last, next, Leads, here, back, onward, repeat}
 
 -- From a hand to one that is as good and has less left to do.
 pub record Nearer (Good : Hand → Type 0) (left : Hand → ℕ) (a b : Hand) : Type 0 where
@@ -36,6 +36,15 @@ module _ (look : Hand → Look) (Good End : Hand → Type 0) (left : Hand → �
   unfolding repeat
   repeat-ends zero a good h = absurd (omega arith)
   repeat-ends (suc k) a good h = step k (repeat-ends k) a h (look a) refl (leads a good)
+
+-- The repeat on its way: a look more, and its end.
+pub leads-on : {look : Hand → Look} {a b c : Hand} → Leads look a b → look b ≡ again c → Leads look a c
+leads-on here is = back is here
+leads-on (back p on) is = back p (leads-on on is)
+
+pub leads-to-end : {look : Hand → Look} {a b z : Hand} → Leads look a b → Ends look b z → Ends look a z
+leads-to-end here ends = ends
+leads-to-end (back p on) ends = next p (leads-to-end on ends)
 
 -- A look has one outcome, so two ways through the repeat are the same.
 pub ends-once : {look : Hand → Look} {a y z : Hand} → Ends look a y → Ends look a z → y ≡ z

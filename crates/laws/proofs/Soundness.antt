@@ -16,11 +16,12 @@ use Rattle.figures.specs.Directory.{Directory, cached, remembered, listed, inCa
 use Rattle.figures.specs.Words.{flags, mostFlags, words, used, unused, encode, decode}
 use Rattle.figures.specs.Car.{carSound}
 use Rattle.figures.specs.Cart.{cartSound}
+use Rattle.figures.specs.Classics.{aloneSound, clearSound}
 use Rattle.figures.specs.Sound.{flagWords, sound}
 use Rattle.figures.specs.Demands.{Sound}
 use Rattle.laws.proofs.Lists.{is, is-itself, total-append, lacks-counts, counts-lacks}
 use Rattle.laws.proofs.Lists.{bits-at-most-one, short-or-long}
-use Rattle.laws.proofs.Facts.{inHistory, CarFacts, CartFacts, Facts}
+use Rattle.laws.proofs.Facts.{inHistory, CarFacts, CartFacts, AloneFacts, ClearFacts, Facts}
 use Rattle.laws.proofs.Encoding.{decode-encode, encode-decode, words-fit, used-words, unused-words}
 
 -- Pages that differ are pages that count at most once.
@@ -76,6 +77,14 @@ module _ (d : Directory) where
   pub cart-iff : (cartSound (encode d) ≡ true) ↔ CartFacts d
   unfolding cartSound
   cart-iff = (λ h. let said = simp says at h in search, λ f. simp says search)
+
+  pub alone-iff : (aloneSound (encode d) ≡ true) ↔ AloneFacts d
+  unfolding aloneSound
+  alone-iff = (λ h. let said = simp says at h in search, λ f. simp says search)
+
+  pub clear-iff : (clearSound (encode d) ≡ true) ↔ ClearFacts d
+  unfolding clearSound
+  clear-iff = (λ h. let said = simp (says, alone-iff) at h in search, λ f. simp (says, alone-iff) search)
 
   pub facts : Sound d → Facts d
   unfolding sound

@@ -1,4 +1,4 @@
--- What CAR and CART share: turns of a head to a tail of T1 or T2, the choice between the two, the demotion, the trim.
+-- What the policies share: turns of a head to a tail of T1 or T2, the choice between the two, the last move, the trim.
 -- Each law is over any count of entries, so that a size, which counts ones, needs no law of its own.
 use mathlib.Core.Path.{_≡_, refl, ap}
 use mathlib.Core.List.{List, _∷_}
@@ -11,7 +11,7 @@ use Rattle.terms.proofs.Choice.{by-test}
 use Rattle.figures.specs.Entry.{Entry, cleared, demoted, bits, total, dropHead}
 use Rattle.figures.specs.Directory.{Directory, Name, T1, T2, B1, B2, withList, withLists, withQ}
 use Rattle.figures.specs.Directory.{cached, remembered, inCache, t1AtTarget}
-use Rattle.figures.specs.Hand.{Hand, begin, withDir, withCounts, demote}
+use Rattle.figures.specs.Hand.{Hand, begin, withDir, withCounts, demote, forget}
 use Rattle.figures.specs.Demands.{Evicts, byPage, HeadDropped}
 use Rattle.laws.proofs.Lists.{has-head, is, one, total-tail, total-head-dropped, length-head-dropped}
 use Rattle.laws.proofs.Facts.{inHistory, cached-counts, remembered-counts, Shared, Opened, Trimmed}
@@ -61,7 +61,7 @@ Exchanged e e′ t1 t2 d =
     (count : Entry → ℕ) → total count t1 + total count t2 + count e ≡ inCache count d + count (cleared e′)
 
 module _ {d : Directory} {a : Hand} (t : Turned d a) where
-  still-cached : cached (a .dir) ≡ cached d
+  pub still-cached : cached (a .dir) ≡ cached d
   still-cached = omega (arith, t .same-pages (λ page. 1), cached-counts d, cached-counts (a .dir))
 
   same-page : (x : ℕ) → inCache (is x) (a .dir) ≡ inCache (is x) d
@@ -82,16 +82,16 @@ module _ {d : Directory} {a : Hand} (t : Turned d a) where
     bits-accounted = omega (arith, exchanged bits);
   }
 
--- Both figures choose between T1 and T2 by one test, and the chosen list has a head, which is then demoted to its
--- history.
+-- Both figures choose between T1 and T2 by one test, and the chosen list has a head. Its last move takes it out of the
+-- cache, to its history or, where none is kept, to nowhere: so many more are remembered then.
 
-pub record Demoted (d : Directory) (z : Hand) : Type 0 where
+pub record Vacated (more : ℕ) (d : Directory) (z : Hand) : Type 0 where
   pub opens : Opened d (z .dir)
   pub evicts : Evicts d z
-  pub remembers : remembered (z .dir) ≡ remembered d + 1
+  pub remembers : remembered (z .dir) ≡ remembered d + more
 
-abbrev demotedTo : Entry → ℕ → List Entry → List Entry → List Entry → List Entry → ℕ → ℕ → Hand → Hand
-demotedTo e list t1 t2 b1 b2 nS nL a = record {
+abbrev vacatedTo : Entry → ℕ → List Entry → List Entry → List Entry → List Entry → ℕ → ℕ → Hand → Hand
+vacatedTo e list t1 t2 b1 b2 nS nL a = record {
   dir = withLists t1 t2 b1 b2 (a .dir);
   nS = nS;
   nL = nL;
@@ -108,24 +108,26 @@ module _ {d : Directory} (shared : Shared d) where
       by-test P (t1AtTarget (a .dir)) (λ test. from-t1 (omega (arith, leb-true)))
       (λ test. from-t2 (omega (arith, leb-false, still-cached t)))
 
-  evicted : {a : Hand} {list : ℕ} {t1 t2 b1 b2 : List Entry} {nS nL : ℕ} → Turned d a → (e : Entry) → bits e ≡ 0
-      → (1 ≤ list) × (list ≤ 2)
+  -- What a history keeps of e counts for no more than e does.
+  evicted : {a : Hand} {list : ℕ} {t1 t2 b1 b2 : List Entry} {nS nL : ℕ} (kept : (Entry → ℕ) → ℕ) → Turned d a
+      → (e : Entry) → bits e ≡ 0 → (1 ≤ list) × (list ≤ 2) → ((count : Entry → ℕ) → kept count ≤ count e)
       → ((count : Entry → ℕ) → total count t1 + total count t2 + count e ≡ inCache count (a .dir))
-      → ((count : Entry → ℕ) → total count b1 + total count b2 ≡ inHistory count (a .dir) + count (demoted e))
-      → Demoted d (demotedTo e list t1 t2 b1 b2 nS nL a)
-  evicted {a} {t1 = t1} {t2 = t2} {b1 = b1} {b2 = b2} t e clear named taken given =
+      → ((count : Entry → ℕ) → total count b1 + total count b2 ≡ inHistory count (a .dir) + kept count)
+      → Vacated (kept one) d (vacatedTo e list t1 t2 b1 b2 nS nL a)
+  evicted {a} {t1 = t1} {t2 = t2} {b1 = b1} {b2 = b2} kept t e clear named most taken given =
       let d′ = withLists t1 t2 b1 b2 (a .dir) in
-      let remembers : remembered d′ ≡ remembered d + 1 =
+      let remembers : remembered d′ ≡ remembered d + kept one =
       omega (arith, given one, still-remembered t one, remembered-counts d, remembered-counts d′) in
       let opens : Opened d d′ = record {
         same-policy = t .same-policy;
         same-c = t .same-c;
         same-p = t .same-p;
         one-less = omega (arith, still-cached t, taken one, cached-counts (a .dir), cached-counts d′);
-        one-more = omega arith;
-        none-listed = λ x. omega (arith, taken (is x), given (is x), still-remembered t (is x), same-page t x);
+        one-more = omega (arith, most one);
+        none-listed = λ x.
+            omega (arith, taken (is x), given (is x), most (is x), still-remembered t (is x), same-page t x);
         none-enters = λ x. omega (arith, taken (is x), same-page t x);
-        history-clear = omega (arith, given bits, still-remembered t bits);
+        history-clear = omega (arith, given bits, most bits, still-remembered t bits);
       } in
       record {
         opens = opens;
@@ -140,16 +142,23 @@ module _ {d : Directory} (shared : Shared d) where
       }
 
   pub evicted-t1 : {nS nL : ℕ} (e : Entry) (es : List Entry) (a : Hand)
-      → let h = holding T1 (e ∷ es) a in Turned d h → bits e ≡ 0 → Demoted d (withCounts nS nL (demote T1 B1 e es h))
+      → let h = holding T1 (e ∷ es) a in Turned d h → bits e ≡ 0
+      → Vacated 1 d (withCounts nS nL (demote T1 B1 e es h))
   evicted-t1 e es a t clear =
-      evicted t e clear (omega arith) (λ count. omega arith)
+      evicted (λ count. count (demoted e)) t e clear (omega arith) (λ count. omega arith) (λ count. omega arith)
       (λ count. omega (arith, total-tail count (a .dir .b1) (demoted e)))
 
   pub evicted-t2 : {nS nL : ℕ} (e : Entry) (es : List Entry) (a : Hand)
-      → let h = holding T2 (e ∷ es) a in Turned d h → bits e ≡ 0 → Demoted d (withCounts nS nL (demote T2 B2 e es h))
+      → let h = holding T2 (e ∷ es) a in Turned d h → bits e ≡ 0
+      → Vacated 1 d (withCounts nS nL (demote T2 B2 e es h))
   evicted-t2 e es a t clear =
-      evicted t e clear (omega arith) (λ count. omega arith)
+      evicted (λ count. count (demoted e)) t e clear (omega arith) (λ count. omega arith) (λ count. omega arith)
       (λ count. omega (arith, total-tail count (a .dir .b2) (demoted e)))
+
+  pub forgotten-t1 : (e : Entry) (es : List Entry) (a : Hand)
+      → let h = holding T1 (e ∷ es) a in Turned d h → bits e ≡ 0 → Vacated 0 d (forget T1 e es h)
+  forgotten-t1 e es a t clear =
+      evicted (λ count. 0) t e clear (omega arith) (λ count. omega arith) (λ count. omega arith) (λ count. omega arith)
 
 -- A trim takes the head of one history, or nothing.
 
