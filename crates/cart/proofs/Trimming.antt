@@ -15,7 +15,7 @@ use Rattle.engine.specs.Passes.{oldestOf}
 use Rattle.engine.proofs.CartTrim.{trims, trims-not, oldest-has-head}
 use Rattle.entries.specs.Holds.{Holds}
 use Rattle.entries.specs.Stretches.{nameOf}
-use Rattle.entries.specs.Leaves.{HistoryHeadDropped}
+use Rattle.entries.specs.Leaves.{ListHeadDropped}
 use Rattle.entries.proofs.Laid.{header, length-of-list}
 use Rattle.entries.proofs.Rooms.{RoomForOne, trimmed-fits}
 
@@ -41,7 +41,7 @@ module _ (d : Directory) {w : List ℕ} (b : ℕ) (is : Holds d w)
       let some : 1 ≤ ∣ listOf (nameOf b) d ∣ = rw named-in-d (oldest-has-head d (omega arith)) in
       omega (arith, length-of-list b d w is known)
 
-  pub head-dropped : {w′ : List ℕ} → HistoryHeadDropped b w w′ → cached d + remembered d ≤ 2 * d .c
+  pub head-dropped : {w′ : List ℕ} → ListHeadDropped b w w′ → cached d + remembered d ≤ 2 * d .c
       → remembered d ≡ d .c + 1 → Holds (trim d) w′
   head-dropped dropped fits full = rw (trims d full, ← named-in-d) (dropped d is fits)
 

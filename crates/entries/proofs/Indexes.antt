@@ -7,7 +7,7 @@ use Prim.Native.Nat.{ℕ, suc, _≤_, _<_}
 use native.Mathlib.Omega.{arith}
 use lib.Dec.{eqb}
 use Rattle.terms.specs.Choice.{if_then_else_, ∣_∣}
-use Rattle.figures.specs.Entry.{Entry, marked, has, mark, without}
+use Rattle.figures.specs.Entry.{Entry, marked, has, mark, without, only}
 use Rattle.entries.specs.Stretches.{index}
 
 has-index : (x : ℕ) (l : List Entry) → has x l ≡ true → index x l < ∣ l ∣
@@ -51,6 +51,7 @@ pub record Around (x : ℕ) (l : List Entry) : Type 0 where
   pub length-ahead : ∣ ahead ∣ ≡ index x l
   pub left : without x l ≡ ahead ++ behind
   pub marks : mark x l ≡ ahead ++ (marked it ∷ behind)
+  pub taken : only x l ≡ it ∷ []
 
 pub around : (x : ℕ) (l : List Entry) → index x l < ∣ l ∣ → Around x l
 around x [] h = absurd (omega arith)
@@ -59,7 +60,16 @@ around x (e ∷ l) h = go (eqb (e .page) x) refl h (around x l)
     go : (b : Bool) → eqb (e .page) x ≡ b → (if b then 0 else suc (index x l)) < suc ∣ l ∣
         → (index x l < ∣ l ∣ → Around x l) → Around x (e ∷ l)
     go true i h k =
-        record { ahead = []; it = e; behind = l; whole = refl; length-ahead = rw i; left = rw i; marks = rw i }
+        record {
+          ahead = [];
+          it = e;
+          behind = l;
+          whole = refl;
+          length-ahead = rw i;
+          left = rw i;
+          marks = rw i;
+          taken = rw i;
+        }
     go false i h k =
         let r = k (omega arith) in
         record {
@@ -70,6 +80,7 @@ around x (e ∷ l) h = go (eqb (e .page) x) refl h (around x l)
           length-ahead = rw i (ap suc (r .length-ahead));
           left = rw i (ap (λ (t : List Entry). e ∷ t) (r .left));
           marks = rw i (ap (λ (t : List Entry). e ∷ t) (r .marks));
+          taken = rw i (r .taken);
         }
 
 pub has-append : (x : ℕ) (a b : List Entry) → has x (a ++ b) ≡ has x a || has x b

@@ -43,9 +43,9 @@ CameBack b k t page f′ w w′ =
     (d : Directory) (e′ : Entry) → Holds d w → k ≡ index page (listOf (nameOf b) d) → e′ .page ≡ page → f′ ≡ flags e′
     → Holds (toTail (nameOf t) e′ (withList (nameOf b) (without page (listOf (nameOf b) d)) d)) w′
 
--- The head of the history b is dropped.
-abbrev pub HistoryHeadDropped : ℕ → List ℕ → List ℕ → Type 0
-HistoryHeadDropped b w w′ =
+-- The head of list b is dropped.
+abbrev pub ListHeadDropped : ℕ → List ℕ → List ℕ → Type 0
+ListHeadDropped b w w′ =
     (d : Directory) → Holds d w → cached d + remembered d ≤ 2 * d .c
     → Holds (withList (nameOf b) (dropHead (listOf (nameOf b) d)) d) w′
 

@@ -1,4 +1,4 @@
--- A page that comes back from a history, alike for both policies: what it is asked of, and what the words are then.
+-- A page that comes back from a history, alike for CAR and CART: what it is asked of, and what the words are then.
 -- Before it the evict part has freed a place, of a sound directory that was full.
 use mathlib.Core.Path.{_≡_}
 use mathlib.Core.Bool.{true, false}

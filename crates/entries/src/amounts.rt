@@ -1,4 +1,4 @@
-// The least, the greatest and the whole quotient, as the rules of both policies use them.
+// The least, the greatest and the whole quotient, as the rules of CAR and CART use them.
 // Nothing wraps: what could is proved not to, where it stands.
 ghost use mathlib.Core.Path.{_≡_};
 ghost use Prim.Native.Nat.{_/_, _≤_, min, max};

@@ -1,4 +1,4 @@
-// The lists of a directory in lent words: leaves that every rule of both policies is made of.
+// The lists of a directory in lent words: leaves that the rules of every policy are made of.
 // Nothing is copied out: a move turns one stretch of words in place and holds one entry.
 pub mod amounts;
 pub mod flags;

@@ -9,7 +9,7 @@ ghost use Rattle.engine.specs.Shown.{Makes};
 ghost use Rattle.engine.specs.Heads.{headTo};
 ghost use Rattle.entries.specs.Holds.{Holds};
 ghost use Rattle.entries.specs.Stretches.{Room, startOf};
-ghost use Rattle.entries.specs.Leaves.{FoundIn, HeadMoved, CameBack, HistoryHeadDropped, Marked};
+ghost use Rattle.entries.specs.Leaves.{FoundIn, HeadMoved, CameBack, ListHeadDropped, Marked};
 use crate::flags;
 use crate::header;
 use crate::search;
@@ -120,11 +120,11 @@ pub fn come_back(dir: &mut [u32], b: usize, k: usize, t: usize, page: u32, flags
     dir[header::T1_LENGTH + b] = m - 1;
 }
 
-// The head of the history b is dropped.
+// The head of list b is dropped.
 pub fn drop_head(dir: &mut [u32], b: usize)
     requires { ⌜ Room (now dir) ⌝ }
-    requires { ⌜ (2 ≤ b) × (b ≤ 3) × (1 ≤ getD (now dir) (4 + b) 0) ⌝ }
-    ensures { λ _. ⌜ HistoryHeadDropped b (now (dir .entry)) (now (dir .exit)) ⌝ }
+    requires { ⌜ (b ≤ 3) × (1 ≤ getD (now dir) (4 + b) 0) ⌝ }
+    ensures { λ _. ⌜ ListHeadDropped b (now (dir .entry)) (now (dir .exit)) ⌝ }
 {
     let a = start_of(dir, b);
     let e = start_of(dir, END);

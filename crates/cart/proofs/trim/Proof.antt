@@ -15,7 +15,7 @@ drop-head-requires : tie.Need-drop-head-requires
 drop-head-requires c κs =
     let s = at-start (c .before) in
     let o = c .before .oldest .ensures in
-    (s .pre .room, (o .1, o .2, has-head (decode (s .args .dir .now)) _ (s .pre .is) (o .0) (o .2) (omega arith)))
+    (s .pre .room, (o .2, has-head (decode (s .args .dir .now)) _ (s .pre .is) (o .0) (o .2) (omega arith)))
 
 returns : tie.Need-returns
 returns c d is =
