@@ -38,8 +38,8 @@ pub moves-counted : {w : List ℕ} → Ready w → (x : ℕ) → request x (deco
 moves-counted {w} r x =
     let h = header (decode w) w (words-held r) in
     let most : mostMoves (decode w) ≤ 2049 =
-    by-policy (λ n. policyOf n .mostMoves (decode w .c) ≤ 2049) (omega arith) (omega arith) (decode w .policy)
-    (facts-of-words w (r .is-sound) .known) in
+    by-policy (λ n. policyOf n .mostMoves (decode w .c) ≤ 2049) (omega arith) (omega arith) (omega arith) (omega arith)
+    (omega arith) (decode w .policy) (facts-of-words w (r .is-sound) .known) in
     omega (arith, request-moves-at-most x (decode w) (decoded-sound w (r .is-sound)))
 
 -- After i requests the words are v and the buffer is `given`: the answers so far stand in front, and what is left of

@@ -4,17 +4,15 @@ use mathlib.Core.Bool.{true, false, _||_}
 use mathlib.Core.List.{List, _++_}
 use Prim.Native.Nat.{ℕ, _+_, _≤_, _<_}
 use native.Mathlib.Omega.{arith}
-use lib.ListN.{getD, length-append}
+use lib.ListN.{length-append}
 use borrow.Author.Tests.{eq-eqb, ne-eqb}
 use Rattle.terms.specs.Choice.{∣_∣}
-use Rattle.terms.specs.Policies.{car, cart}
-use Rattle.terms.proofs.ByPolicy.{by-policy}
 use Rattle.figures.specs.Entry.{has}
-use Rattle.figures.specs.Directory.{Directory, hit, placeNew, cached}
+use Rattle.figures.specs.Directory.{Directory, placeNew, cached}
 use Rattle.figures.specs.Words.{encode, decode, size, nT1, nT2}
 use Rattle.figures.specs.Policy.{policyOf}
 use Rattle.figures.specs.Sound.{sound}
-use Rattle.figures.specs.Request.{Served, still, missed, request}
+use Rattle.figures.specs.Request.{Served, still, request}
 use Rattle.figures.specs.Demands.{Sound}
 use Rattle.laws.proofs.Encoding.{encode-decode, words-fit}
 use Rattle.laws.proofs.Soundness.{facts-of-words}
@@ -64,22 +62,6 @@ module _ {w : List ℕ} (r : Ready w) where
   pub room : Room w
   room = roomy d words-held (omega (arith, held, r)) (omega (arith, held, r))
 
-  -- the policy that it names
-  by-named : (P : ℕ → Type 0) → P car → P cart → P (d .policy)
-  by-named P of-car of-cart = by-policy P of-car of-cart (d .policy) (facts-of-words w (r .is-sound) .known)
-
-  -- A miss of the policy that it names, whose number word 0 has.
-  pub evicts-as : (n : ℕ) → getD w 0 0 ≡ n → (x : ℕ) {a : Answered} {w′ : List ℕ}
-      → Tells Holds (missed (policyOf n) x (policyOf n .evict d)) a w′ → Tells Holds (evicting x d) a w′
-  evicts-as n is x {a} {w′} told =
-      subst (λ (n : ℕ). Tells Holds (missed (policyOf n) x (policyOf n .evict d)) a w′) (sym is ∙ held .policy) told
-
-  pub other-is-cart : (getD w 0 0 ≡ car → ⊥) → getD w 0 0 ≡ cart
-  other-is-cart is-not =
-      held .policy
-      ∙ by-named (λ n. (n ≡ car → ⊥) → n ≡ cart) (λ not-car. absurd (not-car refl)) (λ not-car. refl)
-      (λ is. is-not (held .policy ∙ is))
-
   -- a request leaves it sound
   pub ready-again : (x : ℕ) (w′ : List ℕ) → Holds (request x d .dir) w′ → Ready w′
   ready-again x w′ is =
@@ -108,12 +90,11 @@ module _ {w : List ℕ} (r : Ready w) where
       pub place : k ≡ index x (d .t1 ++ d .t2)
       place = told (cache-held d w words-held) (found .1) refl length-cache
 
-      pub tells-hit : {w′ : List ℕ} → k < n → Holds (hit x d) w′ → TellsRequest (stillOf 0) w′
+      pub tells-hit : {w′ : List ℕ} → k < n → Holds (policyOf (d .policy) .hit x d) w′ → TellsRequest (stillOf 0) w′
       tells-hit inside is =
           let there = index-has x (d .t1 ++ d .t2) (omega (arith, place, length-cache)) in
           let cached = sym (has-append x (d .t1) (d .t2)) ∙ there in
-          let marks = by-named (λ n. still 0 (policyOf n .hit x d) ≡ still 0 (hit x d)) refl refl in
-          tells-as (serve-hit (policyOf (d .policy)) x d cached ∙ marks) (still-told 0 (hit x d) is)
+          tells-as (serve-hit (policyOf (d .policy)) x d cached) (still-told 0 _ is)
 
       missed-cache : n ≤ k → has x (d .t1) || has x (d .t2) ≡ false
       missed-cache outside =

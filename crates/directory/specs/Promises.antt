@@ -28,7 +28,7 @@ pub record Requested (w : List ℕ) (page : ℕ) (r : Answer) (w′ : List ℕ) 
   pub list-is : r .list ≡ onRequest w page .list
   pub moves-is : r .moves ≡ onRequest w page .moves
   pub words-are : w′ ≡ onRequest w page .words
-  -- c + 1 for CAR, 2c + 1 for CART
+  -- c + 1 for CAR and CLOCK, 2c + 1 for CART, 1 for FIFO and LRU
   pub moves-at-most : r .moves ≤ mostMoves (decode w)
 
 -- run(dir, trace, answers) -> Ran
@@ -37,5 +37,5 @@ pub record Replayed (w trace answers : List ℕ) (r : Ran) (w′ answers′ : Li
   pub tally-is : defined (r .tally) ≡ onRun w trace answers .tally
   pub words-are : w′ ≡ onRun w trace answers .words
   pub answers-are : answers′ ≡ onRun w trace answers .answers
-  -- one a request for CAR, two for CART, and what the directory owes at the start
+  -- two a request for CART, one for the others, and what the directory owes at the start
   pub moves-at-most : r .tally .moves ≤ movesEach (decode w) * ∣ trace ∣ + owed (decode w)

@@ -15,12 +15,19 @@ use Rattle.tally.specs.declared.Tally.{Tally}
 use Rattle.engine.specs.declared.Served.{Served}
 use Rattle.tally.specs.Note.{defined}
 use Rattle.entries.specs.Holds.{Holds}
+use Rattle.entries.specs.Stretches.{index}
 use Rattle.figures.specs.Words.{encode, decode, size, nT1, nT2, nB1, nB2}
 use Rattle.figures.specs.Sound.{SizeBounds, sound}
 
 -- An answer of this kind that evicts nothing.
 abbrev pub stillOf : ℕ → Served
 stillOf kind = record { kind = kind; page = 0; list = 0; moves = 0; cleared = 0 }
+
+-- A hit on entry k of T1 and T2, which is for page x, under the policy that the directory names.
+abbrev pub HitAs : ℕ → List ℕ → List ℕ → Type 0
+HitAs k w w′ =
+    let d = decode w in
+    (x : ℕ) → k ≡ index x (d .t1 ++ d .t2) → Holds (policyOf (d .policy) .hit x d) w′
 
 -- A miss in a full cache, under the policy that the directory names.
 abbrev pub evicting : ℕ → Directory → Request.Served

@@ -1,7 +1,7 @@
 // The public operations on a directory in lent words. Each is total: whatever is lent gets an answer, a refusal its
 // number, and a refused call changes no lent word. What each promises is in specs/Promises.
 ghost use mathlib.Core.Path.{_≡_};
-ghost use Prim.Native.Nat.{_+_, _*_, _≤_};
+ghost use Prim.Native.Nat.{_+_, _*_, _≤_, _<_};
 ghost use mathlib.Core.List.{_∷_, _++_};
 ghost use lib.ListN.{length, take, drop, replicate};
 ghost use Rattle.figures.specs.Words.{decode, size, nT1, nT2};
@@ -11,7 +11,7 @@ ghost use Rattle.engine.specs.Shown.{Tells};
 ghost use Rattle.entries.specs.Holds.{Holds};
 ghost use Rattle.tally.specs.Note.{defined, Small};
 ghost use Rattle.directory.specs.Promises.{Freshened, Checked, Requested, Replayed};
-ghost use Rattle.directory.specs.Ready.{stillOf, evicting, Ready, Stepped, RunThrough};
+ghost use Rattle.directory.specs.Ready.{stillOf, HitAs, evicting, Ready, Stepped, RunThrough};
 use engine::kinds;
 use entries::header;
 use entries::lists;
@@ -93,16 +93,32 @@ fn still(kind: u32) -> engine::Served
     }
 }
 
+// A hit on entry k of T1 and T2, by the policy that the directory names: FIFO ignores it, LRU moves the page to T1's
+// tail, all others set its bit.
+fn hit(dir: &mut [u32], k: usize)
+    requires { ⌜ Ready (now dir) ⌝ }
+    requires { ⌜ k < nT1 (now dir) + nT2 (now dir) ⌝ }
+    ensures { λ _. ⌜ HitAs k (now (dir .entry)) (now (dir .exit)) ⌝ }
+{
+    let policy = dir[header::POLICY];
+    match policy {
+        policies::FIFO => {}
+        policies::LRU => classics::renew(dir, k),
+        _ => lists::mark(dir, k),
+    }
+}
+
 // A miss in a full cache, by the policy that the directory names.
 fn miss(dir: &mut [u32], page: u32) -> engine::Served
     requires { ⌜ Ready (now dir) ⌝ }
     requires { ⌜ nT1 (now dir) + nT2 (now dir) ≡ size (now dir) ⌝ }
     ensures { λ r. ⌜ Tells Holds (evicting page (decode (now (dir .entry)))) r (now (dir .exit)) ⌝ }
 {
-    if dir[header::POLICY] == policies::CAR {
-        car::miss(dir, page)
-    } else {
-        cart::miss(dir, page)
+    let policy = dir[header::POLICY];
+    match policy {
+        policies::CAR => car::miss(dir, page),
+        policies::CART => cart::miss(dir, page),
+        _ => classics::miss(dir, page),
     }
 }
 
@@ -116,7 +132,7 @@ fn serve(dir: &mut [u32], page: u32) -> engine::Served
     let n2 = lists::wide(dir[header::T2_LENGTH]);
     let at = search::find(dir, header::ENTRIES, n1 + n2, page);
     if at < n1 + n2 {
-        lists::mark(dir, at);
+        hit(dir, at);
         return still(kinds::HIT);
     }
     if n1 + n2 < lists::wide(dir[header::SIZE]) {

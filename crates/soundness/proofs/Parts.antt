@@ -46,6 +46,9 @@ module _ {w : List ℕ} (h : WordsHeld w) where
     many = sym (length-of-list i d w (h .is) known);
   }
 
+  pub t1-stands : Stands w 8 (nT1 w) (d .t1)
+  t1-stands = list-stands 0 (omega arith)
+
   pub t2-stands : Stands w (8 + 2 * nT1 w) (nT2 w) (d .t2)
   t2-stands = list-stands 1 (omega arith)
 

@@ -10,12 +10,6 @@ pub fails : (b : Bool) → (b ≡ true → ⊥) → false ≡ b
 fails true h = absurd (h refl)
 fails false h = refl
 
--- Two tests of which each holds where the other does.
-pub agree : (a b : Bool) → (a ≡ true → b ≡ true) → (b ≡ true → a ≡ true) → a ≡ b
-agree true b h i = sym (h refl)
-agree false true h i = i refl
-agree false false h i = refl
-
 -- A list of one test.
 pub alone : (b : Bool) → b ≡ every (b ∷ [])
 alone true = refl

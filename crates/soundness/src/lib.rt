@@ -1,8 +1,11 @@
 // "A directory is sound when", in words whose number, policy and size are in order, which directory::check sees to.
 // Sizes come first: what is read after them is where it should be.
 ghost use mathlib.Core.Path.{_≡_};
+ghost use lib.ListN.{getD};
 ghost use Rattle.figures.specs.Car.{carSound};
 ghost use Rattle.figures.specs.Cart.{cartSound};
+ghost use Rattle.figures.specs.Classics.{aloneSound, clearSound};
+ghost use Rattle.figures.specs.Policy.{policyOf};
 ghost use Rattle.figures.specs.Sound.{sound};
 ghost use Rattle.soundness.specs.Orderly.{Orderly, sizesFit, WordsHeld, entriesSound};
 use entries::flags;
@@ -74,6 +77,52 @@ fn cart_sound(dir: &[u32]) -> bool
     search::count(dir, header::ENTRIES + 2 * (n1 + n2), k1, flags::LONG) == 0
 }
 
+// What FIFO, CLOCK and LRU share: T1 alone.
+fn alone_sound(dir: &[u32]) -> bool
+    requires { ⌜ WordsHeld (now dir) ⌝ }
+    ensures { λ r. ⌜ r ≡ aloneSound (now (dir .entry)) ⌝ }
+{
+    let n1 = lists::wide(dir[header::T1_LENGTH]);
+    let remembered = lists::wide(dir[header::B1_LENGTH]) + lists::wide(dir[header::B2_LENGTH]);
+    let others = lists::wide(dir[header::T2_LENGTH]) + remembered;
+    if dir[header::P] != 0 {
+        return false;
+    }
+    if dir[header::Q] != 0 {
+        return false;
+    }
+    if others != 0 {
+        return false;
+    }
+    search::count(dir, header::ENTRIES, n1, flags::LONG) == 0
+}
+
+// FIFO's and LRU's own rules: the same, and no bit is set.
+fn clear_sound(dir: &[u32]) -> bool
+    requires { ⌜ WordsHeld (now dir) ⌝ }
+    ensures { λ r. ⌜ r ≡ clearSound (now (dir .entry)) ⌝ }
+{
+    let n1 = lists::wide(dir[header::T1_LENGTH]);
+    if !alone_sound(dir) {
+        return false;
+    }
+    search::count(dir, header::ENTRIES, n1, flags::BIT) == 0
+}
+
+// The own rules of the policy that the directory names.
+fn own_sound(dir: &[u32]) -> bool
+    requires { ⌜ WordsHeld (now dir) ⌝ }
+    ensures { λ r. ⌜ r ≡ policyOf (getD (now (dir .entry)) 0 0) .ownSound (now (dir .entry)) ⌝ }
+{
+    let policy = dir[header::POLICY];
+    match policy {
+        policies::CAR => car_sound(dir),
+        policies::CART => cart_sound(dir),
+        policies::CLOCK => alone_sound(dir),
+        _ => clear_sound(dir),
+    }
+}
+
 // What the entries say, once flags are known to be flags.
 fn entries_sound(dir: &[u32]) -> bool
     requires { ⌜ WordsHeld (now dir) ⌝ }
@@ -87,11 +136,7 @@ fn entries_sound(dir: &[u32]) -> bool
     if search::count(dir, header::ENTRIES + 2 * cached, remembered, flags::BIT) != 0 {
         return false;
     }
-    if dir[header::POLICY] == policies::CAR {
-        car_sound(dir)
-    } else {
-        cart_sound(dir)
-    }
+    own_sound(dir)
 }
 
 // All of it.

@@ -10,8 +10,8 @@ use Rattle.directory.proofs.serve.Tie as tie
 abbrev at-start : tie.After-find → tie.Start
 at-start c = c .before .before .before .before .before .before .before
 
-abbrev after-mark : tie.After-still → tie.After-mark
-after-mark c = c .before .before .before
+abbrev after-hit : tie.After-still → tie.After-hit
+after-hit c = c .before .before .before
 
 abbrev not-cached : tie.After-wide3 → tie.Else1
 not-cached c = c .before .before
@@ -24,14 +24,13 @@ is-full c = c .before .before
 
 returns : tie.Need-returns
 returns c =
-    let m = after-mark c in
+    let m = after-hit c in
     let f = m .before .before .before in
     let s = at-start f in
     let x = s .args .page in
     let found = f .find .ensures in
-    let at = place (s .pre) x found (omega arith) in
-    let marked = m .mark .ensures (decode (s .args .dir .now)) x (words-held (s .pre)) at in
-    rw (c .still .ensures) (tells-hit (s .pre) x found (omega arith) (omega arith) marked)
+    let hit = m .hit .ensures x (place (s .pre) x found (omega arith)) in
+    rw (c .still .ensures) (tells-hit (s .pre) x found (omega arith) (omega arith) hit)
 
 returns-2 : tie.Need-returns-2
 returns-2 c =

@@ -5,8 +5,8 @@ use Rattle.figures.specs.Entry.{long, total}
 use Rattle.figures.specs.Directory.{listed}
 use Rattle.figures.specs.Words.{decode}
 use Rattle.figures.specs.Car.{carSound}
-use Rattle.terms.proofs.Tests.{reads}
-use Rattle.soundness.proofs.Tests.{fails, agree}
+use Rattle.terms.proofs.Tests.{reads, agree}
+use Rattle.soundness.proofs.Tests.{fails}
 use Rattle.soundness.proofs.Parts.{told, all-stand}
 use borrow.Author.Needs.{needs}
 use Rattle.soundness.proofs.car_sound.Statement.{statement}

@@ -7,8 +7,8 @@ use Rattle.figures.specs.Entry.{short, total}
 use Rattle.figures.specs.Words.{decode, nT2, nB2}
 use Rattle.figures.specs.Cart.{cartSound}
 use Rattle.laws.proofs.Lists.{total-append}
-use Rattle.terms.proofs.Tests.{reads}
-use Rattle.soundness.proofs.Tests.{fails, agree}
+use Rattle.terms.proofs.Tests.{reads, agree}
+use Rattle.soundness.proofs.Tests.{fails}
 use Rattle.soundness.proofs.Parts.{told, t2-stands, b1-stands, b2-stands, others-short}
 use borrow.Author.Needs.{needs}
 use Rattle.soundness.proofs.cart_sound.Statement.{statement}

@@ -46,15 +46,8 @@ none-set c = eq-eqb _ 0 (sym (bits-set (c .before)) ∙ c .if2 .left)
 
 returns-3 : tie.Need-returns-3
 returns-3 c =
-    let e = c .before .before .before in
-    let is-car = eq-eqb _ 1 (c .before .if3 .taken) in
-    c .car-sound .ensures ∙ rw (all-differ (e .before .before), none-set e, is-car) (alone _)
-
-returns-4 : tie.Need-returns-4
-returns-4 c =
-    let e = c .before .before .before in
-    let not-car = ne-eqb _ 1 (c .before .if3 .left) in
-    c .cart-sound .ensures ∙ rw (all-differ (e .before .before), none-set e, not-car) (alone _)
+    let e = c .before in
+    c .own-sound .ensures ∙ rw (all-differ (e .before .before), none-set e) (alone _)
 
 pub entries-sound-spec : {M : Type 1} → statement M
 entries-sound-spec =
@@ -77,8 +70,5 @@ entries-sound-spec =
     (λ c. search needs)
     (λ c κs. search needs)
     returns-2
-    (λ c. search needs)
     (λ c κs. search needs)
-    (λ c κs. search needs)
-    returns-3
-    returns-4)
+    returns-3)

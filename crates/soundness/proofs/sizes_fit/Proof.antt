@@ -2,8 +2,8 @@
 use mathlib.Core.Path.{refl, sym}
 use native.Mathlib.Omega.{arith}
 use borrow.Author.Tests.{eqb-true}
-use Rattle.terms.proofs.Tests.{reads}
-use Rattle.soundness.proofs.Tests.{fails, agree}
+use Rattle.terms.proofs.Tests.{reads, agree}
+use Rattle.soundness.proofs.Tests.{fails}
 use borrow.Author.Needs.{needs}
 use Rattle.soundness.proofs.sizes_fit.Statement.{statement}
 use Rattle.soundness.proofs.sizes_fit.Tie as tie
