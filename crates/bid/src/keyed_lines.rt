@@ -71,6 +71,15 @@ fn policy_value(text: &[u8]) -> PolicyValue
     if text::equal(text, &policies::CART_NAME) {
         return PolicyValue::Named(policies::CART);
     }
+    if text::equal(text, &policies::FIFO_NAME) {
+        return PolicyValue::Named(policies::FIFO);
+    }
+    if text::equal(text, &policies::CLOCK_NAME) {
+        return PolicyValue::Named(policies::CLOCK);
+    }
+    if text::equal(text, &policies::LRU_NAME) {
+        return PolicyValue::Named(policies::LRU);
+    }
     PolicyValue::Unknown
 }
 

@@ -113,12 +113,13 @@ fn put_name(out: &mut [u8], at: usize, policy: u32) -> usize
     requires { ⌜ PutFits (now out) at (bytes (policyName policy)) ⌝ }
     ensures { λ r. ⌜ Put (now (out .entry)) at (bytes (policyName policy)) (now (out .exit)) r ⌝ }
 {
-    if policy == policies::CAR {
-        put(out, at, &policies::CAR_NAME)
-    } else if policy == policies::CART {
-        put(out, at, &policies::CART_NAME)
-    } else {
-        at
+    match policy {
+        policies::CAR => put(out, at, &policies::CAR_NAME),
+        policies::CART => put(out, at, &policies::CART_NAME),
+        policies::FIFO => put(out, at, &policies::FIFO_NAME),
+        policies::CLOCK => put(out, at, &policies::CLOCK_NAME),
+        policies::LRU => put(out, at, &policies::LRU_NAME),
+        _ => at,
     }
 }
 

@@ -1,22 +1,22 @@
 -- What a sheet means: a bid with its policy, c, cost, count of pages and every page in their ranges, or a refusal with
 -- a number. Each part is a fact about the line that gives it: what is read there is in range, or a refusal's number.
 use mathlib.Core.Path.{_≡_, refl, subst}
-use mathlib.Core.Bool.{true}
-use mathlib.Core.List.{List, []}
+use mathlib.Core.Bool.{true, or-true}
+use mathlib.Core.List.{List, [], _∷_}
 use Prim.Native.Nat.{ℕ, suc, _+_, _≤_, _<_}
 use native.Mathlib.Omega.{arith}
 use lib.ListN.{drop}
 use lib.Dec.{ltb}
-use borrow.Author.Tests.{ltb-true}
+use borrow.Author.Tests.{ltb-true, eq-eqb}
 use Rattle.terms.specs.Choice.{∣_∣, allAtMost, same}
 use Rattle.terms.specs.Limits.{knownSize}
-use Rattle.terms.specs.Policies.{knownPolicy}
+use Rattle.terms.specs.Policies.{Named, policies, hasNumber, knownPolicy}
 use Rattle.terms.proofs.Choice.{by-test, either}
 use Rattle.terms.proofs.Tests.{reads}
 use Rattle.text.specs.Text.{bytes, starts}
 use Rattle.sheets.specs.Number.{Value, means, wrong, wholeForm, whole, costForm, missCost}
 use Rattle.sheets.specs.Lines.{Lines, end, unclosed, line, lines, Reading, good, bad, before, under}
-use Rattle.sheets.specs.Bid.{Bid, Meaning, bid, refused, PolicyValue, policyValue, policyMeant, inRange}
+use Rattle.sheets.specs.Bid.{Bid, Meaning, bid, refused, PolicyValue, namedIn, policyValue, policyMeant, inRange}
 use Rattle.sheets.specs.Bid.{policyLine, sizeLine, costLine, pageLine, Pages, listed, refusedAt, onto, pagesFrom}
 use Rattle.sheets.specs.Bid.{withPages, afterLine, inOrder, meaning}
 use Rattle.sheets.specs.Demands.{InRange, BidsInRange, RefusalsHaveNumbers}
@@ -78,10 +78,15 @@ Known policy = knownPolicy policy ≡ true
 abbrev Names : PolicyValue → Type 0
 Names v = OfValue Known (policyMeant v)
 
+-- A name of the list stands for a known policy, where the list has no number that is not known.
+listed-named : (l : List Named) → ((n : ℕ) → hasNumber n l ≡ true → Known n) → (s : List ℕ) → Names (namedIn l s)
+listed-named [] known s = omega arith
+listed-named (p ∷ l) known s =
+    let first = known (p .number) (rw (eq-eqb (p .number) (p .number) refl)) in
+    either Names (same s (bytes (p .name))) first (listed-named l (λ n listed. known n (rw (listed, or-true))) s)
+
 policy-named : (s : List ℕ) → Names (policyValue s)
-policy-named s =
-    either Names (same s (bytes "")) refl
-    (either Names (same s (bytes "car")) refl (either Names (same s (bytes "cart")) refl (omega arith)))
+policy-named s = either Names (same s (bytes "")) refl (listed-named policies (λ n known. known) s)
 
 policy-known : (ls : Lines) → OfReading Known (policyLine ls)
 unfolding policyLine

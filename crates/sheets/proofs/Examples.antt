@@ -41,7 +41,12 @@ sheets = record {
   empty = refl;
   blank-policy = refl;
   cart-policy = refl;
+  fifo-policy = refl;
+  clock-policy = refl;
+  lru-policy = refl;
   unknown-policy = refl;
+  a-name-cut-short = refl;
+  a-name-and-a-blank = refl;
   key-before-value = refl;
   size-out-of-range = refl;
   size-not-in-form = refl;
@@ -65,4 +70,4 @@ looked-up = record {
 
 pub results : Results
 unfolding decimal milliseconds resultSheet refusedSheet
-results = record { the-worked = refl; a-refusal = refl }
+results = record { the-worked = refl; under-clock = refl; a-refusal = refl }

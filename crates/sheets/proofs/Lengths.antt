@@ -1,14 +1,16 @@
 -- How long a sheet is: line by line, and at most 256 bytes.
-use mathlib.Core.Path.{_≡_}
-use mathlib.Core.List.{List}
+use mathlib.Core.Path.{_≡_, refl}
+use mathlib.Core.Bool.{true}
+use mathlib.Core.List.{List, [], _∷_, map}
 use Prim.Native.Nat.{ℕ, _+_, _/_, _^_, _≤_, _<_}
 use Prim.Native.String.{String}
 use native.Mathlib.Omega.{arith}
 use lib.ListN.{length-append}
 use lib.Dec.{eqb}
-use Rattle.terms.specs.Choice.{∣_∣}
-use Rattle.terms.specs.Policies.{car, cart, policyName}
+use Rattle.terms.specs.Choice.{∣_∣, allAtMost}
+use Rattle.terms.specs.Policies.{Named, policies, nameIn, policyName}
 use Rattle.terms.proofs.Choice.{either}
+use Rattle.terms.proofs.Tests.{reads}
 use Rattle.text.specs.Text.{bytes}
 use Rattle.sheets.specs.Result.{Outcome, decimal, milliseconds, lineOf, resultSheet}
 use Rattle.sheets.specs.Demands.{ResultFits}
@@ -38,12 +40,18 @@ decimal-length n h = digits-of n (omega arith) .few 9 (omega arith)
 pub count-length : (key : List ℕ) (n : ℕ) → n < 2 ^ 32 → ∣ lineOf key (decimal n) ∣ ≤ ∣ key ∣ + 11
 count-length key n h = omega (arith, line-length key (decimal n), decimal-length n h)
 
-name-length : (policy : ℕ) → ∣ bytes (policyName policy) ∣ ≤ 4
-name-length policy =
-    either Short (eqb policy car) (omega arith) (either Short (eqb policy cart) (omega arith) (omega arith))
-  where
-    Short : String → Type 0
-    Short name = ∣ bytes name ∣ ≤ 4
+abbrev Short : String → Type 0
+Short name = ∣ bytes name ∣ ≤ 5
+
+-- A name of a list is short where all of them are, which is computed.
+name-short : (policy : ℕ) (l : List Named) → allAtMost 5 (map (λ p. ∣ bytes (p .name) ∣) l) ≡ true
+    → Short (nameIn policy l)
+name-short policy [] fit = omega arith
+name-short policy (p ∷ l) fit =
+    let each = simp reads at fit in either Short (eqb policy (p .number)) (each .0) (name-short policy l (each .1))
+
+name-length : (policy : ℕ) → Short (policyName policy)
+name-length policy = name-short policy policies refl
 
 milliseconds-length : (wait : ℕ) → wait < 2 ^ 64 → ∣ milliseconds wait ∣ ≤ 21
 unfolding milliseconds

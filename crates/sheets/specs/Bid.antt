@@ -25,7 +25,7 @@ pub data Meaning : Type 0 where
 
 -- THE FIRST THREE LINES
 
--- "`policy=` (car or cart; empty means car)"
+-- "`policy=` (car or cart; empty means car)"; "(`fifo`, `clock`, `lru`)" (request 1 of 02)
 pub data PolicyValue : Type 0 where
   named : ℕ → PolicyValue
   blank unknown : PolicyValue

@@ -4,7 +4,7 @@ use mathlib.Core.Path.{_≡_}
 use mathlib.Core.List.{List, [], _∷_}
 use Prim.Native.Nat.{ℕ}
 use Prim.Native.String.{String}
-use Rattle.terms.specs.Policies.{car, cart}
+use Rattle.terms.specs.Policies.{car, cart, fifo, clock, lru}
 use Rattle.text.specs.Text.{bytes}
 use Rattle.sheets.specs.Number.{means, wrong, whole, missCost}
 use Rattle.sheets.specs.Lines.{lines}
@@ -51,8 +51,13 @@ pub record Sheets : Type 0 where
   pub empty : sheet "" ≡ refused 8 1
   pub blank-policy : sheet "policy=\npages=1\nmisscost=0,000\n" ≡ aBid car 1 0 []
   pub cart-policy : sheet "policy=cart\npages=1024\nmisscost=0,001\npage=0\n" ≡ aBid cart 1024 1 (0 ∷ [])
-  pub unknown-policy : sheet "policy=lru\npages=0\nmisscost=1250\n" ≡ refused 1 1
-  pub key-before-value : sheet "policy:lru\npages=0\n" ≡ refused 8 1
+  pub fifo-policy : sheet "policy=fifo\npages=3\nmisscost=0,500\npage=7\n" ≡ aBid fifo 3 500 (7 ∷ [])
+  pub clock-policy : sheet "policy=clock\npages=3\nmisscost=0,500\npage=7\n" ≡ aBid clock 3 500 (7 ∷ [])
+  pub lru-policy : sheet "policy=lru\npages=3\nmisscost=0,500\npage=7\n" ≡ aBid lru 3 500 (7 ∷ [])
+  pub unknown-policy : sheet "policy=arc\npages=0\nmisscost=1250\n" ≡ refused 1 1
+  pub a-name-cut-short : sheet "policy=cloc\npages=3\nmisscost=0,500\n" ≡ refused 1 1
+  pub a-name-and-a-blank : sheet "policy=fifo \npages=3\nmisscost=0,500\n" ≡ refused 1 1
+  pub key-before-value : sheet "policy:arc\npages=0\n" ≡ refused 8 1
   pub size-out-of-range : sheet "policy=car\npages=1025\nmisscost=1250\n" ≡ refused 2 2
   pub size-not-in-form : sheet "policy=car\npages=01025\nmisscost=1250\n" ≡ refused 9 2
   pub cost-not-in-form : sheet "policy=car\npages=2\nmisscost=1250\n" ≡ refused 9 3
@@ -81,7 +86,22 @@ workedOutcome = record {
   wait = 7500;
 }
 
+-- The worked sheet under `clock`, worked out by hand from request 1 of 02.
+abbrev pub clockOutcome : Outcome
+clockOutcome = record {
+  policy = clock;
+  pages = 2;
+  requests = 8;
+  hits = 1;
+  misses = 7;
+  evictions = 5;
+  steps = 6;
+  wait = 8750;
+}
+
 pub record Results : Type 0 where
   pub the-worked : resultSheet workedOutcome ≡
       bytes "policy=car\npages=2\nrequests=8\nhits=2\nmisses=6\nevictions=4\nsteps=6\nwait=7,500\n"
+  pub under-clock : resultSheet clockOutcome ≡
+      bytes "policy=clock\npages=2\nrequests=8\nhits=1\nmisses=7\nevictions=5\nsteps=6\nwait=8,750\n"
   pub a-refusal : refusedSheet 8 1 ≡ bytes "refused=8\nline=1\n"
