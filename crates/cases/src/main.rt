@@ -1,5 +1,5 @@
-// Document 01's cases through the code: P1 to P12, the limits, each soundness rule broken by itself, and the pages 0
-// and 4,294,967,295. It prints what each call gave, and the gate compares that with the file stdout.
+// The cases through the code: P1 to P12, FIFO, CLOCK and LRU, the limits, each soundness rule broken by itself, and the
+// pages 0 and 4,294,967,295. It prints what each call gave, and the gate compares that with the file stdout.
 
 fn space_and(n: u32) {
     io::write_all(1, b" ");
@@ -86,6 +86,34 @@ fn worked_cases() {
     case(b"P12", 1, 1, &trace[..2], &mut one);
 }
 
+// C1 to C15 of crates/figures/specs/Cases.antt.
+fn classics() {
+    let mut one = [0u32; 12];
+    let mut two = [0u32; 16];
+    let mut three = [0u32; 20];
+    let mut four = [0u32; 24];
+    let trace = [1u32, 2, 1, 3, 2, 1];
+    let again = [1u32, 2, 1, 2, 3];
+    let single = [1u32, 1, 2];
+    let apart = [1u32, 2, 1, 3, 4, 5];
+    let middle = [1u32, 2, 3, 4, 2];
+    case(b"C1", 3, 2, &trace[..3], &mut two);
+    case(b"C2", 4, 2, &trace[..3], &mut two);
+    case(b"C3", 5, 2, &trace[..3], &mut two);
+    case(b"C4", 3, 2, &trace[..4], &mut two);
+    case(b"C5", 4, 2, &trace[..4], &mut two);
+    case(b"C6", 5, 2, &trace[..4], &mut two);
+    case(b"C7", 3, 2, &trace, &mut two);
+    case(b"C8", 4, 2, &again, &mut two);
+    case(b"C9", 3, 1, &single, &mut one);
+    case(b"C10", 4, 1, &single, &mut one);
+    case(b"C11", 5, 1, &single, &mut one);
+    case(b"C12", 3, 3, &apart, &mut three);
+    case(b"C13", 4, 3, &apart, &mut three);
+    case(b"C14", 5, 3, &apart, &mut three);
+    case(b"C15", 5, 4, &middle, &mut four);
+}
+
 fn pages_at_the_ends() {
     let mut two = [0u32; 16];
     let ends = [0u32, 4294967295, 0, 7, 4294967295];
@@ -105,10 +133,11 @@ fn sizes_of_a_fresh_directory() {
     show_number(b"fresh c=0", directory::fresh(1, 0, &mut words8));
     show_number(b"fresh c=1025", directory::fresh(1, 1025, &mut words4108));
     show_number(b"fresh policy 0", directory::fresh(0, 2, &mut words16));
-    show_number(b"fresh policy 3", directory::fresh(3, 2, &mut words16));
+    show_number(b"fresh policy 5", directory::fresh(5, 2, &mut words16));
+    show_number(b"fresh policy 6", directory::fresh(6, 2, &mut words16));
     show_number(
-        b"fresh policy 3, c=0, 7 words",
-        directory::fresh(3, 0, &mut words7),
+        b"fresh policy 6, c=0, 7 words",
+        directory::fresh(6, 0, &mut words7),
     );
     show_number(b"fresh a word short", directory::fresh(1, 2, &mut words15));
     show_number(b"fresh a word long", directory::fresh(1, 2, &mut words17));
@@ -140,10 +169,11 @@ fn words_out_of_range() {
     directory::fresh(1, 2, &mut two);
     broken(b"check c=0", &mut two, 1, 0);
     broken(b"check c=1025", &mut two, 1, 1025);
-    broken(b"check policy 3", &mut two, 0, 3);
+    broken(b"check policy 0", &mut two, 0, 0);
+    broken(b"check policy 6", &mut two, 0, 6);
 }
 
-// The rules that both policies have, each broken by itself: U7 to U20 of crates/figures/specs/Cases.antt without U9.
+// The rules that all policies have, each broken by itself: U7 to U20 of crates/figures/specs/Cases.antt without U9.
 fn broken_rules() {
     let mut two = [0u32; 16];
     let trace = [1u32, 2, 1, 3, 2, 1, 4];
@@ -197,18 +227,45 @@ fn broken_rules_of_cart() {
     broken(b"T1 of 4294967295", &mut two, 4, 4294967295);
 }
 
-// Sound directories at the limits: S1 to S5.
+// The rules of FIFO, CLOCK and LRU: U29 to U37.
+fn broken_rules_of_the_classics() {
+    let mut clock = [4u32, 2, 0, 0, 2, 0, 0, 0, 4, 0, 1, 0, 0, 0, 0, 0];
+    let mut fifo = [3u32, 2, 0, 0, 2, 0, 0, 0, 4, 0, 1, 0, 0, 0, 0, 0];
+    let mut lru = [5u32, 2, 0, 0, 2, 0, 0, 0, 4, 0, 1, 0, 0, 0, 0, 0];
+    let in_t2 = [4u32, 2, 0, 0, 1, 1, 0, 0, 4, 0, 1, 0, 0, 0, 0, 0];
+    let in_b1 = [4u32, 2, 0, 0, 2, 0, 1, 0, 4, 0, 1, 0, 3, 0, 0, 0];
+    let in_b2 = [4u32, 2, 0, 0, 2, 0, 0, 1, 4, 0, 1, 0, 3, 0, 0, 0];
+    show_number(b"sound CLOCK", directory::check(&clock));
+    broken(b"p for CLOCK", &mut clock, 2, 1);
+    broken(b"q for CLOCK", &mut clock, 3, 1);
+    show_number(b"a page in T2 for CLOCK", directory::check(&in_t2));
+    show_number(b"a page in B1 for CLOCK", directory::check(&in_b1));
+    show_number(b"a page in B2 for CLOCK", directory::check(&in_b2));
+    broken(b"a filter for CLOCK", &mut clock, 11, 2);
+    broken(b"a bit for CLOCK", &mut clock, 11, 1);
+    broken(b"a bit for FIFO", &mut fifo, 11, 1);
+    broken(b"a bit for LRU", &mut lru, 9, 1);
+    broken(b"p for FIFO", &mut fifo, 2, 1);
+}
+
+// Sound directories at the limits: S1 to S5, S8 to S10.
 fn directories_at_the_limits() {
     let full = [1u32, 2, 2, 0, 1, 1, 1, 1, 4, 1, 1, 1, 3, 0, 2, 0];
     let flags = [2u32, 2, 2, 4, 1, 1, 1, 1, 4, 3, 1, 3, 3, 0, 2, 2];
     let short = [2u32, 2, 0, 0, 2, 0, 2, 0, 0, 0, 4294967295, 1, 3, 0, 2, 0];
     let t2_b2 = [1u32, 2, 0, 0, 0, 2, 0, 2, 4, 0, 0, 0, 3, 0, 2, 0];
     let room = [1u32, 2, 0, 0, 1, 0, 0, 0, 4, 1, 0, 0, 0, 0, 0, 0];
+    let fifo = [3u32, 2, 0, 0, 2, 0, 0, 0, 4, 0, 0, 0, 0, 0, 0, 0];
+    let clock = [4u32, 2, 0, 0, 2, 0, 0, 0, 4, 1, 1, 1, 0, 0, 0, 0];
+    let lru = [5u32, 2, 0, 0, 2, 0, 0, 0, 4, 0, 1, 0, 0, 0, 0, 0];
     show_number(b"CAR at the limits", directory::check(&full));
     show_number(b"CART at the limits", directory::check(&flags));
     show_number(b"CART, T1 and B1 of 2c", directory::check(&short));
     show_number(b"CAR, T2 and B2 of 2c", directory::check(&t2_b2));
     show_number(b"CAR with room", directory::check(&room));
+    show_number(b"FIFO, full", directory::check(&fifo));
+    show_number(b"CLOCK, all bits set", directory::check(&clock));
+    show_number(b"LRU, full", directory::check(&lru));
 }
 
 // Two pages whose bits are the same in the set by which crate differing tells pages apart; and one of them twice.
@@ -279,6 +336,7 @@ fn runs_at_the_ends() {
 
 fn main() {
     worked_cases();
+    classics();
     pages_at_the_ends();
     sizes_of_a_fresh_directory();
     largest_directory();
@@ -287,9 +345,13 @@ fn main() {
     broken_rules();
     broken_rules_of_car();
     broken_rules_of_cart();
+    broken_rules_of_the_classics();
     directories_at_the_limits();
     pages_of_the_same_bits();
     worked_run(b"worked run, CAR", 1);
     worked_run(b"worked run, CART", 2);
+    worked_run(b"worked run, FIFO", 3);
+    worked_run(b"worked run, CLOCK", 4);
+    worked_run(b"worked run, LRU", 5);
     runs_at_the_ends();
 }

@@ -52,11 +52,18 @@ fn short_buffers(name: &[u8]) {
     read(name, &sheet[..n], &mut exact);
 }
 
-// Sheets that are read, at the ends of what is allowed.
-fn good_sheets() {
+// The worked sheet under each policy, and under none.
+fn good_policies() {
     file(b"worked.bid");
     file(b"cart.bid");
+    file(b"fifo.bid");
+    file(b"clock.bid");
+    file(b"lru.bid");
     file(b"policy-blank.bid");
+}
+
+// Sheets that are read, at the ends of what is allowed.
+fn good_sheets() {
     file(b"no-page-lines.bid");
     file(b"pages-1.bid");
     file(b"pages-1024.bid");
@@ -81,6 +88,16 @@ fn policies() {
     file(b"blank-policy-then-cr.bid");
     file(b"policy-then-nul.bid");
     file(b"policy-non-ascii.bid");
+}
+
+// So one that is nearly `fifo`, `clock` or `lru`.
+fn later_policies() {
+    file(b"policy-fifo-then-space.bid");
+    file(b"policy-lifo.bid");
+    file(b"policy-cloc.bid");
+    file(b"policy-clocks.bid");
+    file(b"policy-lru-upper-case.bid");
+    file(b"policy-number.bid");
 }
 
 // The size: 2 where it is a number out of range, 9 where it is none, at line 2.
@@ -208,8 +225,10 @@ fn two_faults() {
 }
 
 pub fn all() {
+    good_policies();
     good_sheets();
     policies();
+    later_policies();
     sizes();
     costs();
     page_values();
