@@ -1,16 +1,23 @@
 // Bid sheets as bytes: good ones, damaged ones, and those at the limits of 01.
 // Used by the groups "sheets" and "programs".
 
+use crate::policy::{CAR, CART, CLOCK, FIFO, LRU};
 use crate::random::Random;
+
+/// Names and numbers as they are drawn: CAR and CART, where more can go wrong, four times as often as each of the three.
+pub const DRAWN: [(&str, u32); 11] = [
+    ("car", CAR), ("car", CAR), ("", CAR), ("", CAR), ("cart", CART), ("cart", CART), ("cart", CART), ("cart", CART),
+    ("fifo", FIFO), ("clock", CLOCK), ("lru", LRU),
+];
 
 /// A sheet of these lines, each closed by a line feed.
 pub fn of_lines(lines: &[String]) -> Vec<u8> {
     lines.iter().flat_map(|line| [line.as_bytes(), b"\n"].concat()).collect()
 }
 
-/// The worked sheet of 01.
-pub fn worked() -> Vec<u8> {
-    good_of("car", "2", "1,250", &[1, 2, 1, 3, 2, 1, 4, 2])
+/// The worked sheet of 01, under this policy.
+pub fn worked(policy: &str) -> Vec<u8> {
+    good_of(policy, "2", "1,250", &[1, 2, 1, 3, 2, 1, 4, 2])
 }
 
 /// A good sheet of these values and pages.
@@ -42,7 +49,7 @@ pub fn of_pages(random: &mut Random, count: usize) -> Vec<u8> {
             trace[at] = trace[at - random.within(1, at.min(c))];
         }
     }
-    good_of(random.pick(&["car", "cart", ""]), &c.to_string(), "12,345", &trace)
+    good_of(random.pick(&DRAWN).0, &c.to_string(), "12,345", &trace)
 }
 
 /// A good sheet with a few page lines.
@@ -52,7 +59,7 @@ pub fn good(random: &mut Random) -> Vec<u8> {
     let count = random.pick(&[0, 1, 2, 5, 10, 20, 40, 80]);
     let trace: Vec<u32> = (0..count).map(|_| page(random, kinds)).collect();
     let cost = good_cost(random);
-    good_of(random.pick(&["car", "cart", ""]), &c.to_string(), &cost, &trace)
+    good_of(random.pick(&DRAWN).0, &c.to_string(), &cost, &trace)
 }
 
 pub fn good_cost(random: &mut Random) -> String {
@@ -72,7 +79,7 @@ fn page(random: &mut Random, kinds: usize) -> u32 {
 pub fn odd_value(random: &mut Random) -> Vec<u8> {
     let mut lines: Vec<String> = text_lines(&good(random));
     lines.push("page=7".to_string());
-    let at = random.pick(&[0, 1, 1, 2, 2, 2, 3, lines.len() - 1]);
+    let at = random.pick(&[0, 0, 1, 1, 2, 2, 2, 3, lines.len() - 1]);
     let at = at.min(lines.len() - 1);
     lines[at] = match at {
         0 => format!("policy={}", random.pick(&POLICIES)),
@@ -83,8 +90,10 @@ pub fn odd_value(random: &mut Random) -> Vec<u8> {
     of_lines(&lines)
 }
 
-const POLICIES: [&str; 14] =
-    ["", "car", "cart", "CAR", "Cart", "carts", "ca", "arc", " car", "car ", "=", "=car", "1", "c"];
+const POLICIES: [&str; 34] = [
+    "", "car", "cart", "CAR", "Cart", "carts", "ca", "arc", " car", "car ", "=", "=car", "1", "c", "fifo", "fif", "fifoo", "fifo ",
+    "FIFO", "filo", "clock", "cloc", "clocks", "Clock", " clock", "clock2", "lru", "lr", "lruu", "LRU", "lru ", "mru", "3", "6",
+];
 const NUMBERS: [&str; 38] = [
     "0", "1", "2", "9", "10", "1023", "1024", "1025", "1026", "999", "65536", "4294967294", "4294967295", "4294967296",
     "4294967297", "4294967300", "9999999999", "10000000000", "42949672950", "04294967295", "00", "01", "000", "010",

@@ -104,7 +104,7 @@ fn take_answer(stream: &mut Words, op: u32) -> Option<Vec<u32>> {
 
 fn compare_programs(random: &mut Random, full: bool, command: &[String]) -> Count {
     let mut count = Count::new("programs");
-    for sheet in program_sheets(random, if full { 700 } else { 150 }) {
+    for sheet in program_sheets(random, if full { 970 } else { 210 }) {
         for (name, program) in [("score", score as fn(&[u8]) -> Vec<u8>), ("ledger", ledger)] {
             let ours = Did { output: program(&sheet), end: End::good() };
             let theirs = drive(command, name, sheet.clone());

@@ -94,9 +94,26 @@ mod tests {
     }
 
     #[test]
+    fn the_worked_run_under_the_three() {
+        let results = [
+            ("fifo", "hits=2\nmisses=6\nevictions=4\nsteps=4\nwait=7,500\n", "kind=2 evicted=1 list=1 moves=1"),
+            ("clock", "hits=1\nmisses=7\nevictions=5\nsteps=6\nwait=8,750\n", "kind=2 evicted=2 list=1 moves=2"),
+            ("lru", "hits=1\nmisses=7\nevictions=5\nsteps=5\nwait=8,750\n", "kind=2 evicted=2 list=1 moves=1"),
+        ];
+        for (name, rest, fourth) in results {
+            let sheet = String::from_utf8(WORKED.to_vec()).unwrap().replace("=car\n", &format!("={name}\n"));
+            let result = format!("policy={name}\npages=2\nrequests=8\n{rest}");
+            assert_eq!(String::from_utf8(score(sheet.as_bytes())).unwrap(), result);
+            let text = String::from_utf8(ledger(sheet.as_bytes())).unwrap();
+            assert!(text.starts_with(&result) && text.contains(&format!("request=4 page=3 {fourth}\n")), "{text}");
+        }
+    }
+
+    #[test]
     fn refused_sheets() {
         assert_eq!(score(b""), b"refused=8\nline=1\n");
         assert_eq!(ledger(b"policy=car\npages=1025\n"), b"refused=2\nline=2\n");
+        assert_eq!(ledger(b"policy=lruu\npages=1\n"), b"refused=1\nline=1\n");
         assert_eq!(score(&[0; 16001]), b"refused=7\nline=0\n");
         assert_eq!(ledger(&[0; 20000]), b"refused=7\nline=0\n");
     }

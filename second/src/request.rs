@@ -1,7 +1,8 @@
-// One request under CAR or CART (Figures 2 and 3): hit, or miss with evict, trim and place.
-// Each part reads as its paragraph in 01; sizes are those at the moment a rule is read.
+// One request under CAR or CART (Figures 2 and 3), or under FIFO, CLOCK or LRU: hit, or miss with evict, trim
+// and place. Each part reads as its paragraph in 01; sizes are those at the moment a rule is read.
 
-use crate::directory::{check, decode, encode, holds, size, Directory, Entry, CAR};
+use crate::directory::{check, decode, encode, holds, size, Directory, Entry};
+use crate::policy::{CAR, CART, FIFO, LRU};
 use std::cmp::{max, min};
 
 /// The four words of an answer.
@@ -34,11 +35,8 @@ pub fn request(dir: &mut [u32], page: u32) -> (u32, Answer) {
 
 /// A request on a sound directory.
 pub fn serve(d: &mut Directory, page: u32) -> Answer {
-    for entry in d.t1.iter_mut().chain(d.t2.iter_mut()) {
-        if entry.page == page {
-            entry.referenced = true;
-            return Answer { kind: 0, page: 0, list: 0, moves: 0 };
-        }
+    if hit(d, page) {
+        return Answer { kind: 0, page: 0, list: 0, moves: 0 };
     }
     if size(&d.t1) + size(&d.t2) < d.c {
         place(d, page);
@@ -50,11 +48,24 @@ pub fn serve(d: &mut Directory, page: u32) -> Answer {
     Answer { kind, page: evicted.page, list: evicted.list, moves: evicted.moves }
 }
 
+/// Whether the page is in T1 or T2; then its bit is set, but FIFO ignores the hit and LRU moves the page.
+fn hit(d: &mut Directory, page: u32) -> bool {
+    let Some(entry) = d.t1.iter_mut().chain(d.t2.iter_mut()).find(|entry| entry.page == page) else {
+        return false;
+    };
+    match d.policy {
+        FIFO => {}
+        LRU => to_tail(&mut d.t1, page),
+        _ => entry.referenced = true,
+    }
+    true
+}
+
 fn evict(d: &mut Directory) -> Evicted {
-    if d.policy == CAR {
-        evict_car(d)
-    } else {
-        evict_cart(d)
+    match d.policy {
+        CAR => evict_car(d),
+        CART => evict_cart(d),
+        _ => evict_t1_alone(d),
     }
 }
 
@@ -62,20 +73,26 @@ fn trim(d: &mut Directory, page: u32) {
     if holds(&d.b1, page) || holds(&d.b2, page) {
         return;
     }
-    if d.policy == CAR {
-        trim_car(d)
-    } else {
-        trim_cart(d)
+    match d.policy {
+        CAR => trim_car(d),
+        CART => trim_cart(d),
+        _ => {} // no histories
     }
 }
 
 /// Places the page and gives the kind of the miss, if a page was evicted before.
 fn place(d: &mut Directory, page: u32) -> u32 {
-    if d.policy == CAR {
-        place_car(d, page)
-    } else {
-        place_cart(d, page)
+    match d.policy {
+        CAR => place_car(d, page),
+        CART => place_cart(d, page),
+        _ => place_new(d, page),
     }
+}
+
+/// A page in neither history.
+fn place_new(d: &mut Directory, page: u32) -> u32 {
+    d.t1.push(Entry { page, referenced: false, long: false });
+    2
 }
 
 // ---- CAR ----
@@ -126,8 +143,7 @@ fn place_car(d: &mut Directory, page: u32) -> u32 {
         d.t2.push(Entry { page, referenced: false, long: false });
         4
     } else {
-        d.t1.push(Entry { page, referenced: false, long: false });
-        2
+        place_new(d, page)
     }
 }
 
@@ -217,19 +233,44 @@ fn place_cart(d: &mut Directory, page: u32) -> u32 {
         raise_q(d);
         4
     } else {
-        d.t1.push(Entry { page, referenced: false, long: false });
-        2
+        place_new(d, page)
     }
 }
+
+// ---- FIFO, CLOCK and LRU ----
+
+/// T1's head is forgotten; a head with bit 1, which only CLOCK has, gets its second chance before that.
+fn evict_t1_alone(d: &mut Directory) -> Evicted {
+    let mut moves = 0;
+    loop {
+        moves += 1;
+        let mut head = d.t1.remove(0);
+        if !head.referenced {
+            return Evicted { page: head.page, list: 1, moves };
+        }
+        head.referenced = false; // second chance
+        d.t1.push(head);
+    }
+}
+
+// ---- lists ----
 
 fn take_out(list: &mut Vec<Entry>, page: u32) {
     list.retain(|entry| entry.page != page);
 }
 
+/// The page becomes the tail, the others keep their order.
+fn to_tail(list: &mut [Entry], page: u32) {
+    if let Some(at) = list.iter().position(|entry| entry.page == page) {
+        list[at..].rotate_left(1);
+    }
+}
+
 #[cfg(test)]
 mod tests {
     use super::*;
-    use crate::directory::{fresh, words_for, CART};
+    use crate::directory::{fresh, words_for};
+    use crate::policy::CLOCK;
 
     const TRACE: [u32; 8] = [1, 2, 1, 3, 2, 1, 4, 2];
 
@@ -296,16 +337,101 @@ mod tests {
         assert!(d.b1.is_empty() && d.b2.is_empty());
     }
 
+    /// One request of a hand-worked trace: the page, the answer's words, and T1 after it with `*` for a set bit.
+    type Step = (u32, [u32; 4], &'static str);
+
+    /// Serves the steps on a fresh directory; but T1 all of it stays empty and zero.
+    fn worked(policy: u32, c: u32, steps: &[Step]) {
+        let mut dir = vec![0; words_for(c)];
+        assert_eq!(fresh(policy, c, &mut dir), 0);
+        for (at, &(page, [kind, evicted, list, moves], t1)) in steps.iter().enumerate() {
+            let got = request(&mut dir, page);
+            let d = decode(&dir);
+            assert_eq!((got, shown(&d.t1)), ((0, answer(kind, evicted, list, moves)), t1.to_string()), "policy {policy}, step {at}");
+            assert_eq!((check(&dir), dir[2], dir[3], &dir[5..8]), (0, 0, 0, &[0, 0, 0][..]));
+        }
+    }
+
+    fn shown(t1: &[Entry]) -> String {
+        t1.iter().map(|entry| format!("{}{}", entry.page, if entry.referenced { "*" } else { "" })).collect::<Vec<String>>().join(" ")
+    }
+
+    /// 01's trace: FIFO ignores the hits, CLOCK lets page 1 go round once, LRU moves it at once.
+    #[test]
+    fn the_trace_of_01_under_the_three() {
+        worked(FIFO, 2, &[
+            (1, [1, 0, 0, 0], "1"), (2, [1, 0, 0, 0], "1 2"), (1, [0, 0, 0, 0], "1 2"), (3, [2, 1, 1, 1], "2 3"),
+            (2, [0, 0, 0, 0], "2 3"), (1, [2, 2, 1, 1], "3 1"), (4, [2, 3, 1, 1], "1 4"), (2, [2, 1, 1, 1], "4 2"),
+        ]);
+        worked(CLOCK, 2, &[
+            (1, [1, 0, 0, 0], "1"), (2, [1, 0, 0, 0], "1 2"), (1, [0, 0, 0, 0], "1* 2"), (3, [2, 2, 1, 2], "1 3"),
+            (2, [2, 1, 1, 1], "3 2"), (1, [2, 3, 1, 1], "2 1"), (4, [2, 2, 1, 1], "1 4"), (2, [2, 1, 1, 1], "4 2"),
+        ]);
+        worked(LRU, 2, &[
+            (1, [1, 0, 0, 0], "1"), (2, [1, 0, 0, 0], "1 2"), (1, [0, 0, 0, 0], "2 1"), (3, [2, 2, 1, 1], "1 3"),
+            (2, [2, 1, 1, 1], "3 2"), (1, [2, 3, 1, 1], "2 1"), (4, [2, 2, 1, 1], "1 4"), (2, [2, 1, 1, 1], "4 2"),
+        ]);
+    }
+
+    /// Page 4 evicts 1 under FIFO, 3 under CLOCK and 2 under LRU; page 1 is then a miss only under FIFO.
+    #[test]
+    fn the_three_evict_differently() {
+        worked(FIFO, 3, &[
+            (1, [1, 0, 0, 0], "1"), (2, [1, 0, 0, 0], "1 2"), (2, [0, 0, 0, 0], "1 2"), (1, [0, 0, 0, 0], "1 2"), (3, [1, 0, 0, 0], "1 2 3"),
+            (4, [2, 1, 1, 1], "2 3 4"), (1, [2, 2, 1, 1], "3 4 1"), (5, [2, 3, 1, 1], "4 1 5"),
+        ]);
+        worked(CLOCK, 3, &[
+            (1, [1, 0, 0, 0], "1"), (2, [1, 0, 0, 0], "1 2"), (2, [0, 0, 0, 0], "1 2*"), (1, [0, 0, 0, 0], "1* 2*"), (3, [1, 0, 0, 0], "1* 2* 3"),
+            (4, [2, 3, 1, 3], "1 2 4"), (1, [0, 0, 0, 0], "1* 2 4"), (5, [2, 2, 1, 2], "4 1 5"),
+        ]);
+        worked(LRU, 3, &[
+            (1, [1, 0, 0, 0], "1"), (2, [1, 0, 0, 0], "1 2"), (2, [0, 0, 0, 0], "1 2"), (1, [0, 0, 0, 0], "2 1"), (3, [1, 0, 0, 0], "2 1 3"),
+            (4, [2, 2, 1, 1], "1 3 4"), (1, [0, 0, 0, 0], "3 4 1"), (5, [2, 3, 1, 1], "4 1 5"),
+        ]);
+    }
+
+    /// c = 1: the only page is head and tail; CLOCK's goes round and is evicted, c + 1 moves.
+    #[test]
+    fn one_page_under_the_three() {
+        let miss = |moves| [(1, [1, 0, 0, 0], "1"), (2, [2, 1, 1, moves], "2"), (2, [0, 0, 0, 0], "2"), (1, [2, 2, 1, moves], "1")];
+        worked(FIFO, 1, &miss(1));
+        worked(LRU, 1, &miss(1));
+        worked(CLOCK, 1, &[(1, [1, 0, 0, 0], "1"), (2, [2, 1, 1, 1], "2"), (2, [0, 0, 0, 0], "2*"), (1, [2, 2, 1, 2], "1")]);
+    }
+
+    /// All bits set: the hand goes round, comes back to the first head, and all bits are 0 after it.
+    #[test]
+    fn clock_moves_c_and_one() {
+        worked(CLOCK, 3, &[
+            (7, [1, 0, 0, 0], "7"), (8, [1, 0, 0, 0], "7 8"), (9, [1, 0, 0, 0], "7 8 9"), (9, [0, 0, 0, 0], "7 8 9*"), (8, [0, 0, 0, 0], "7 8* 9*"),
+            (7, [0, 0, 0, 0], "7* 8* 9*"), (7, [0, 0, 0, 0], "7* 8* 9*"), (0, [2, 7, 1, 4], "8 9 0"), (7, [2, 8, 1, 1], "9 0 7"),
+        ]);
+    }
+
+    /// A hit on the head, on the middle and on the tail.
+    #[test]
+    fn lru_moves_from_everywhere() {
+        worked(LRU, 3, &[
+            (4, [1, 0, 0, 0], "4"), (5, [1, 0, 0, 0], "4 5"), (6, [1, 0, 0, 0], "4 5 6"), (4, [0, 0, 0, 0], "5 6 4"),
+            (6, [0, 0, 0, 0], "5 4 6"), (6, [0, 0, 0, 0], "5 4 6"), (7, [2, 5, 1, 1], "4 6 7"), (5, [2, 4, 1, 1], "6 7 5"),
+        ]);
+    }
+
     #[test]
     fn page_zero_and_the_largest_are_pages() {
         assert_eq!(after(CAR, 2, &[0, u32::MAX, 0]).0, answer(0, 0, 0, 0));
         assert_eq!(after(CART, 1, &[u32::MAX, 0]).0, answer(2, u32::MAX, 1, 1));
         assert_eq!(after(CART, 1, &[0, 5, 0]).0, answer(3, 5, 1, 1));
+        for policy in [FIFO, CLOCK, LRU] {
+            assert_eq!(after(policy, 2, &[0, u32::MAX, 0]).0, answer(0, 0, 0, 0));
+            assert_eq!(after(policy, 1, &[u32::MAX, 0]).0, answer(2, u32::MAX, 1, 1));
+            assert_eq!(after(policy, 1, &[0, 5, 0]).0, answer(2, 5, 1, 1));
+        }
     }
 
     #[test]
     fn a_refused_request_leaves_all() {
-        for mut dir in [vec![1, 1, 2, 0, 0, 0, 0, 0, 0, 0, 0, 0], vec![1; 7], vec![3; 8], vec![1, 0, 1, 1, 1, 1, 1, 1]] {
+        for mut dir in [vec![1, 1, 2, 0, 0, 0, 0, 0, 0, 0, 0, 0], vec![1; 7], vec![6; 8], vec![1, 0, 1, 1, 1, 1, 1, 1]] {
             let before = dir.clone();
             let (number, got) = request(&mut dir, 1);
             assert_eq!(number, check(&before));

@@ -66,6 +66,8 @@ fn count(tally: &mut Tally, answer: &Answer) {
 mod tests {
     use super::*;
     use crate::directory::{fresh, words_for};
+    use crate::policy::{CLOCK, FIFO, LRU};
+    use crate::random::Random;
     use crate::request::request;
 
     fn fresh_directory(policy: u32, c: u32) -> Vec<u32> {
@@ -86,8 +88,42 @@ mod tests {
     }
 
     #[test]
+    fn the_worked_run_under_the_three() {
+        let tallies = [(FIFO, [8, 2, 6, 4, 4]), (CLOCK, [8, 1, 7, 5, 6]), (LRU, [8, 1, 7, 5, 5])];
+        for (policy, [requests, hits, misses, evictions, moves]) in tallies {
+            let got = run(&mut fresh_directory(policy, 2), &[1, 2, 1, 3, 2, 1, 4, 2], &mut [9; 32]);
+            assert_eq!(got, (0, Tally { requests, hits, misses, evictions, moves }));
+        }
+    }
+
+    /// FIFO and LRU never need more than one move, CLOCK c + 1 at most, and none more than one a request from fresh.
+    #[test]
+    fn moves_of_the_three() {
+        let mut random = Random::new(2);
+        let mut met = 0;
+        for trace_number in 0..600 {
+            let (policy, c) = (random.pick(&[FIFO, CLOCK, LRU]), random.pick(&[1, 2, 3, 5, 8, 13, 100, 1024]));
+            let kinds = random.within(c, 2 * c);
+            let trace: Vec<u32> = (0..1000).map(|_| random.below(kinds) as u32).collect();
+            let mut answers = vec![0; 4000];
+            let (number, tally) = run(&mut fresh_directory(policy, c as u32), &trace, &mut answers);
+            assert_eq!((number, tally.requests), (0, 1000));
+            let bound = if policy == CLOCK { c as u32 + 1 } else { 1 };
+            let mut so_far = 0;
+            for (at, answer) in answers.chunks(4).enumerate() {
+                so_far += answer[3];
+                assert!(answer[3] <= bound && so_far as usize <= at + 1, "trace {trace_number}, request {at}");
+                assert!(answer[0] <= 2 && answer[2] == (answer[0] == 2) as u32 && (answer[3] > 0) == (answer[0] == 2));
+                met += (c > 2 && policy == CLOCK && answer[3] == bound) as u32;
+            }
+            assert_eq!(tally.moves, so_far);
+        }
+        assert!(met > 20, "CLOCK's bound is met {met} times");
+    }
+
+    #[test]
     fn a_run_is_its_requests() {
-        for policy in [1, 2] {
+        for policy in 1..=5 {
             let trace: Vec<u32> = (0..1000).map(|at: u32| at * at % 37 % 11).collect();
             let mut dir = fresh_directory(policy, 4);
             let mut single = dir.clone();

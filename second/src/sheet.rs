@@ -1,6 +1,8 @@
 // The sheet reader (a bid sheet line after line, the first wrong line decides) and the look-up
 // by line number, which hands back the stretch between the first `=` and the line feed.
 
+use crate::policy;
+
 pub const LONGEST_SHEET: usize = 16000;
 pub const PAGE_BUFFER: usize = 1000;
 pub const MOST_PAGES: usize = 1000;
@@ -79,9 +81,8 @@ fn after_key<'a>(text: &'a [u8], key: &[u8]) -> Result<&'a [u8], u32> {
 
 fn policy_value(value: &[u8]) -> Result<u32, u32> {
     match value {
-        b"car" | b"" => Ok(1),
-        b"cart" => Ok(2),
-        _ => Err(1),
+        b"" => Ok(policy::CAR),
+        name => policy::number(name).ok_or(1),
     }
 }
 
@@ -171,6 +172,10 @@ mod tests {
         assert_eq!(read(b"policy=\npages=2\nmisscost=1,250\npage=0\npage=4294967295\n"), Ok(Bid { count: 2, ..bid }));
         assert_eq!(read(b"policy=cart\npages=1024\nmisscost=9999,999\n"), Ok(Bid { policy: 2, c: 1024, cost: 9_999_999, count: 0 }));
         assert_eq!(read(b"policy=car\npages=1\nmisscost=0,000\n"), Ok(Bid { policy: 1, c: 1, cost: 0, count: 0 }));
+        for (policy, name) in (3..=5).zip(["fifo", "clock", "lru"]) {
+            let sheet = format!("policy={name}\npages=2\nmisscost=1,250\n");
+            assert_eq!(read(sheet.as_bytes()), Ok(Bid { policy, ..bid }));
+        }
         let mut pages = vec![7; 1000];
         assert!(read_sheet(b"policy=\npages=2\nmisscost=1,250\npage=0\npage=4294967295\n", &mut pages).is_ok());
         assert_eq!(pages[..3], [0, u32::MAX, 7]);
@@ -183,6 +188,9 @@ mod tests {
         assert_eq!(refused(b"policy=car\n"), (8, 2));
         assert_eq!(refused(b"policy=arc\npages=0\n"), (1, 1));
         assert_eq!(refused(b"policy=car\r\npages=0\n"), (1, 1));
+        assert_eq!(refused(b"policy=fifo \npages=0\n"), (1, 1));
+        assert_eq!(refused(b"policy=lru"), (8, 1));
+        assert_eq!(refused(b"policy=clock\npages=0\n"), (2, 2));
         assert_eq!(refused(b"policy=car\npages=2\n"), (8, 3));
         assert_eq!(refused(b"policy=car\npages=2\nmisscost=1,250\npage=1"), (8, 4));
         assert_eq!(refused(b"policy=car\npages=2\nmisscost=1,250\n\n"), (8, 4));
