@@ -101,6 +101,12 @@ static void agree_on_damaged(void) {
         damage(dir);
         agree_on_lent(dir, setting.n, setting.trace[k]);
     }
+    for (u32 list = T1; list < B2; list++) { // its tail becomes the next list's head
+        memcpy(dir, setting.start, sizeof setting.start);
+        dir[T1_LENGTH + list]--;
+        dir[T1_LENGTH + list + 1]++;
+        agree_on_lent(dir, setting.n, 0);
+    }
     memcpy(dir, setting.start, sizeof setting.start);
     for (usize n = 0; n <= HEADER; n++) agree_on_lent(dir, n, 0);
     agree_on_lent(dir, setting.n - 1, 0);

@@ -21,6 +21,9 @@ const struct engine engines[ENGINES] = {
 const struct policy policies[POLICIES] = {
     { CAR, "CAR", 2 },
     { CART, "CART", 2 },
+    { FIFO, "FIFO", 1 },
+    { CLOCK, "CLOCK", 1 },
+    { LRU, "LRU", 1 },
 };
 
 int main(int count, char **arguments) {

@@ -26,7 +26,7 @@ struct policy {
     const char *name;
     u32 full;
 };
-enum { POLICIES = 2 };
+enum { POLICIES = 5 };
 extern const struct policy policies[POLICIES];
 
 // Pages for a cache of c pages; `dir` is the warmed-up directory, where there is one.

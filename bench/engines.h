@@ -11,7 +11,7 @@ void *memcpy(void *, const void *, usize);
 void *memset(void *, int, usize);
 int memcmp(const void *, const void *, usize);
 
-enum { CAR = 1, CART = 2 };
+enum { CAR = 1, CART, FIFO, CLOCK, LRU };
 enum { CMAX = 1024, MOST_PAGES = 1000 };
 
 // A directory: the header, then 2c entries of two words, page and flags.

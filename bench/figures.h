@@ -1,5 +1,5 @@
-// CAR and CART by Figures 2 and 3 of the paper, once for both C engines. An engine defines `state`, whose first words
-// are a directory's header, includes this, and defines the functions that are declared here.
+// CAR and CART by Figures 2 and 3 of the paper, and FIFO, CLOCK and LRU, once for both C engines. An engine defines
+// `state`, whose first words are a directory's header, includes this, and defines the functions that are declared here.
 #include "engines.h"
 
 // Where a page was found: its list (LISTS for none) and its place, which is the engine's own.
@@ -15,6 +15,8 @@ static void move_head(state *s, u32 from, u32 to, u32 flags);
 static void drop_head(state *s, u32 list);
 static void place_new(state *s, u32 page);
 static void come_back(state *s, struct found found, u32 to, u32 page, u32 flags);
+static void set_bit(state *s, usize place);
+static void renew(state *s, usize place);
 static void serve(state *s, u32 page, u32 *answer);
 
 static u32 least(u32 a, u32 b) {
@@ -34,10 +36,14 @@ static u32 chosen_clock(const u32 *header) {
     return header[T1_LENGTH] >= greatest(1, header[P]) ? T1 : T2;
 }
 
-static void demote(state *s, u32 list, u32 moves, u32 *answer) {
+static void tell_evicted(const state *s, u32 list, u32 moves, u32 *answer) {
     answer[EVICTED] = head_page(s, list);
     answer[LIST] = list + 1;
     answer[MOVES] = moves;
+}
+
+static void demote(state *s, u32 list, u32 moves, u32 *answer) {
+    tell_evicted(s, list, moves, answer);
     move_head(s, list, list + 2, head_flags(s, list));
 }
 
@@ -128,14 +134,34 @@ static void cart_place(state *s, struct counts *n, struct found found, u32 page)
     }
 }
 
+// FIFO, CLOCK and LRU have T1 alone, and what they evict is forgotten. Where no bit is set, as under FIFO and LRU,
+// CLOCK's hand stops at once.
+static void classic_evict(state *s, u32 *answer) {
+    u32 moves = 1;
+    for (; head_flags(s, T1) & BIT; moves++) move_head(s, T1, T1, 0);
+    tell_evicted(s, T1, moves, answer);
+    drop_head(s, T1);
+}
+
+// FIFO ignores a hit; LRU's page goes to T1's tail.
+static void hit(state *s, usize place) {
+    u32 policy = header_of(s)[POLICY];
+    if (policy == LRU) renew(s, place);
+    else if (policy != FIFO) set_bit(s, place);
+}
+
 static void evict(state *s, struct counts *n, u32 *answer) {
-    if (header_of(s)[POLICY] == CAR) car_evict(s, answer);
-    else cart_evict(s, n, answer);
+    u32 policy = header_of(s)[POLICY];
+    if (policy == CAR) car_evict(s, answer);
+    else if (policy == CART) cart_evict(s, n, answer);
+    else classic_evict(s, answer);
 }
 
 static void place(state *s, struct counts *n, struct found found, u32 page, u32 *answer) {
-    if (header_of(s)[POLICY] == CAR) car_place(s, found, page);
-    else cart_place(s, n, found, page);
+    u32 policy = header_of(s)[POLICY];
+    if (policy == CAR) car_place(s, found, page);
+    else if (policy == CART) cart_place(s, n, found, page);
+    else place_new(s, page);
     answer[KIND] = found.list == B1 ? FOUND_IN_B1 : found.list == B2 ? FOUND_IN_B2 : NEW_PAGE;
 }
 

@@ -70,6 +70,11 @@ static void put_at_tail(state *s, u32 list, u32 slot) {
     s->list[slot] = list;
 }
 
+static void to_tail(state *s, u32 list, u32 slot) {
+    take_out(s, slot);
+    put_at_tail(s, list, slot);
+}
+
 static u32 head_page(const state *s, u32 list) {
     return s->page[s->head[list]];
 }
@@ -81,12 +86,8 @@ static u32 head_flags(const state *s, u32 list) {
 static void move_head(state *s, u32 from, u32 to, u32 flags) {
     u32 slot = s->head[from];
     s->flags[slot] = flags;
-    if (from == to) {
-        s->head[from] = s->next[slot];
-    } else {
-        take_out(s, slot);
-        put_at_tail(s, to, slot);
-    }
+    if (from == to) s->head[from] = s->next[slot];
+    else to_tail(s, to, slot);
 }
 
 static void drop_head(state *s, u32 list) {
@@ -113,9 +114,16 @@ static void place_new(state *s, u32 page) {
 
 static void come_back(state *s, struct found found, u32 to, u32 page, u32 flags) {
     (void)page; // the slot has it
-    take_out(s, found.place);
-    put_at_tail(s, to, found.place);
+    to_tail(s, to, found.place);
     s->flags[found.place] = flags;
+}
+
+static void set_bit(state *s, usize place) {
+    s->flags[place] |= BIT;
+}
+
+static void renew(state *s, usize place) {
+    to_tail(s, T1, place);
 }
 
 static void serve(state *s, u32 page, u32 *answer) {
@@ -123,7 +131,7 @@ static void serve(state *s, u32 page, u32 *answer) {
     struct found found = { slot == NONE ? LISTS : s->list[slot], slot };
     memset(answer, 0, ANSWER * sizeof *answer);
     if (found.list <= T2) {
-        s->flags[slot] |= BIT;
+        hit(s, slot);
         answer[KIND] = HIT;
     } else if (s->header[T1_LENGTH] + s->header[T2_LENGTH] < s->header[SIZE]) {
         place_new(s, page);

@@ -92,8 +92,18 @@ static void come_back(state *dir, struct found found, u32 to, u32 page, u32 flag
     dir[T1_LENGTH + found.list]--;
 }
 
+static void set_bit(state *dir, usize place) {
+    dir[HEADER + ENTRY * place + 1] |= BIT;
+}
+
+static void renew(state *dir, usize place) {
+    usize at = HEADER + ENTRY * place;
+    to_end(dir, at, start_of(dir, T2), dir[at], dir[at + 1]);
+}
+
+// FIFO, CLOCK and LRU have none.
 static struct found find_in_histories(const u32 *dir, u32 page) {
-    struct found found = { B1, 0 };
+    struct found found = { dir[POLICY] <= CART ? B1 : LISTS, 0 };
     for (; found.list < LISTS; found.list++) {
         found.place = find(dir + start_of(dir, found.list), dir[T1_LENGTH + found.list], page);
         if (found.place < dir[T1_LENGTH + found.list]) break;
@@ -115,7 +125,7 @@ static void serve(state *dir, u32 page, u32 *answer) {
     usize resident = dir[T1_LENGTH] + dir[T2_LENGTH], at = find(dir + HEADER, resident, page);
     memset(answer, 0, ANSWER * sizeof *answer);
     if (at < resident) {
-        dir[HEADER + ENTRY * at + 1] |= BIT;
+        hit(dir, at);
         answer[KIND] = HIT;
     } else if (resident < dir[SIZE]) {
         place_new(dir, page);

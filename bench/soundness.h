@@ -7,7 +7,7 @@ static inline u32 mixed(u32 page) {
 }
 
 static inline int known_policy(u32 policy) {
-    return policy == CAR || policy == CART;
+    return CAR <= policy && policy <= LRU;
 }
 
 static inline int known_size(u32 c) {
@@ -56,6 +56,12 @@ static inline int cart_sound(const u32 *dir) {
            count_flag(b1, dir[B1_LENGTH], LONG) == 0 && count_flag(b2, dir[B2_LENGTH], LONG) == dir[B2_LENGTH];
 }
 
+// FIFO, CLOCK and LRU.
+static inline int classic_sound(const u32 *dir, usize listed) {
+    return dir[P] == 0 && dir[Q] == 0 && dir[T1_LENGTH] == listed && count_flag(dir + HEADER, listed, LONG) == 0 &&
+           (dir[POLICY] == CLOCK || count_flag(dir + HEADER, listed, BIT) == 0);
+}
+
 static inline int is_sound(const u32 *dir, usize n, int (*pages_differ)(const u32 *entry, usize entries)) {
     if (dir[P] > dir[SIZE] || !lengths_sound(dir)) return 0;
     usize resident = dir[T1_LENGTH] + dir[T2_LENGTH], past = dir[B1_LENGTH] + dir[B2_LENGTH], listed = resident + past;
@@ -63,7 +69,8 @@ static inline int is_sound(const u32 *dir, usize n, int (*pages_differ)(const u3
     if (!all_zero(dir + HEADER + ENTRY * listed, dir + n)) return 0;
     if (!pages_differ(dir + HEADER, listed)) return 0;
     if (count_flag(dir + HEADER + ENTRY * resident, past, BIT)) return 0;
-    return dir[POLICY] == CAR ? car_sound(dir, listed) : cart_sound(dir);
+    if (dir[POLICY] == CAR) return car_sound(dir, listed);
+    return dir[POLICY] == CART ? cart_sound(dir) : classic_sound(dir, listed);
 }
 
 static inline u32 refusal(const u32 *dir, usize n, int (*pages_differ)(const u32 *entry, usize entries)) {
