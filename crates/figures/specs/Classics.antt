@@ -1,5 +1,5 @@
 -- FIFO, CLOCK and LRU, request 1 of 02: T1 alone, a queue whose head is evicted and forgotten.
--- They differ in what a hit does, and CLOCK sends a head on whose bit is set.
+-- They differ in what a hit does, and CLOCK sends a head whose bit is set to the tail first.
 use mathlib.Core.Bool.{Bool}
 use mathlib.Core.List.{List, [], _∷_, _++_}
 use Prim.Native.Nat.{ℕ, suc, _+_}
