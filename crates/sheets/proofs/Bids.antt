@@ -7,7 +7,7 @@ use Prim.Native.Nat.{ℕ, suc, _+_, _≤_, _<_}
 use native.Mathlib.Omega.{arith}
 use lib.ListN.{drop}
 use lib.Dec.{ltb}
-use borrow.Author.Tests.{ltb-true, eq-eqb}
+use borrow.Author.Tests.{ltb-true, ltb-false, eq-eqb}
 use Rattle.terms.specs.Choice.{∣_∣, allAtMost, same}
 use Rattle.terms.specs.Limits.{knownSize}
 use Rattle.terms.specs.Policies.{Named, policies, hasNumber, knownPolicy}
@@ -18,7 +18,7 @@ use Rattle.sheets.specs.Number.{Value, means, wrong, wholeForm, whole, c
 use Rattle.sheets.specs.Lines.{Lines, end, unclosed, line, lines, Reading, good, bad, before, under}
 use Rattle.sheets.specs.Bid.{Bid, Meaning, bid, refused, PolicyValue, namedIn, policyValue, policyMeant, inRange}
 use Rattle.sheets.specs.Bid.{policyLine, sizeLine, costLine, pageLine, Pages, listed, refusedAt, onto, pagesFrom}
-use Rattle.sheets.specs.Bid.{withPages, afterLine, inOrder, meaning}
+use Rattle.sheets.specs.Bid.{withPages, afterLine, inOrder, meaningWhere}
 use Rattle.sheets.specs.Demands.{InRange, BidsInRange, RefusalsHaveNumbers}
 use Rattle.sheets.proofs.Digits.{is-cost, cost-below}
 
@@ -75,22 +75,23 @@ whole-at-most s =
 abbrev Known : ℕ → Type 0
 Known policy = knownPolicy policy ≡ true
 
-abbrev Names : PolicyValue → Type 0
-Names v = OfValue Known (policyMeant v)
+module _ (blank : ℕ) (blank-known : Known blank) where
+  abbrev Names : PolicyValue → Type 0
+  Names v = OfValue Known (policyMeant (means blank) v)
 
--- A name of the list stands for a known policy, where the list has no number that is not known.
-listed-named : (l : List Named) → ((n : ℕ) → hasNumber n l ≡ true → Known n) → (s : List ℕ) → Names (namedIn l s)
-listed-named [] known s = omega arith
-listed-named (p ∷ l) known s =
-    let first = known (p .number) (rw (eq-eqb (p .number) (p .number) refl)) in
-    either Names (same s (bytes (p .name))) first (listed-named l (λ n listed. known n (rw (listed, or-true))) s)
+  -- A name of the list stands for a known policy, where the list has no number that is not known.
+  listed-named : (l : List Named) → ((n : ℕ) → hasNumber n l ≡ true → Known n) → (s : List ℕ) → Names (namedIn l s)
+  listed-named [] known s = omega arith
+  listed-named (p ∷ l) known s =
+      let first = known (p .number) (rw (eq-eqb (p .number) (p .number) refl)) in
+      either Names (same s (bytes (p .name))) first (listed-named l (λ n listed. known n (rw (listed, or-true))) s)
 
-policy-named : (s : List ℕ) → Names (policyValue s)
-policy-named s = either Names (same s (bytes "")) refl (listed-named policies (λ n known. known) s)
+  policy-named : (s : List ℕ) → Names (policyValue s)
+  policy-named s = either Names (same s (bytes "")) blank-known (listed-named policies (λ n known. known) s)
 
-policy-known : (ls : Lines) → OfReading Known (policyLine ls)
-unfolding policyLine
-policy-known ls = of-under Known (bytes "policy=") (λ s. policyMeant (policyValue s)) policy-named ls
+  policy-known : (ls : Lines) → OfReading Known (policyLine (means blank) ls)
+  unfolding policyLine
+  policy-known ls = of-under Known (bytes "policy=") (λ s. policyMeant (means blank) (policyValue s)) policy-named ls
 
 abbrev Size : ℕ → Type 0
 Size c = (1 ≤ c) × (c ≤ 1024)
@@ -161,20 +162,28 @@ module _ (policy c cost : ℕ) (p : Known policy) (q : Size c) (r : Cost cost) w
   }
   of-pages (refusedAt number at) h = h
 
-lines-in-range : (ls : Lines) → OfMeaning InRange (inOrder ls)
-unfolding inOrder
-lines-in-range ls =
-    of-after InRange Known 1 (policyLine ls) _ (policy-known ls) (λ policy ls₂ p.
-    of-after InRange Size 2 (sizeLine ls₂) _ (size-known ls₂) (λ c ls₃ q.
-    of-after InRange Cost 3 (costLine ls₃) _ (cost-at-most ls₃) (λ cost ls₄ r.
-    of-pages policy c cost p q r (pagesFrom 0 ls₄) (pages-at-most 0 ls₄ (omega arith)))))
+module _ (blank : ℕ) (blank-known : Known blank) where
+  lines-in-range : (ls : Lines) → OfMeaning InRange (inOrder (means blank) ls)
+  unfolding inOrder
+  lines-in-range ls =
+      of-after InRange Known 1 (policyLine (means blank) ls) _ (policy-known blank blank-known ls) (λ policy ls₂ p.
+      of-after InRange Size 2 (sizeLine ls₂) _ (size-known ls₂) (λ c ls₃ q.
+      of-after InRange Cost 3 (costLine ls₃) _ (cost-at-most ls₃) (λ cost ls₄ r.
+      of-pages policy c cost p q r (pagesFrom 0 ls₄) (pages-at-most 0 ls₄ (omega arith)))))
 
-of-sheet : (s : List ℕ) → OfMeaning InRange (meaning s)
-unfolding meaning
-of-sheet s = either (OfMeaning InRange) (ltb 16000 ∣ s ∣) (omega arith) (lines-in-range (lines s))
+  of-sheet : (s : List ℕ) → OfMeaning InRange (meaningWhere (means blank) s)
+  unfolding meaningWhere
+  of-sheet s = either (OfMeaning InRange) (ltb 16000 ∣ s ∣) (omega arith) (lines-in-range (lines s))
 
 pub bids-in-range : BidsInRange
-bids-in-range s b is = subst (OfMeaning InRange) is (of-sheet s)
+bids-in-range blank known s b is = subst (OfMeaning InRange) is (of-sheet blank known s)
 
 pub refusal-has-number : RefusalsHaveNumbers
-refusal-has-number s number at is = subst (OfMeaning InRange) is (of-sheet s)
+refusal-has-number blank known s number at is = subst (OfMeaning InRange) is (of-sheet blank known s)
+
+-- "at most 16,000 bytes": a sheet that is longer is no bid.
+pub bid-is-short : (blankIs : Value) (s : List ℕ) (b : Bid) → meaningWhere blankIs s ≡ bid b → ∣ s ∣ ≤ 16000
+unfolding meaningWhere
+bid-is-short blankIs s b =
+    by-test (λ m. m ≡ bid b → ∣ s ∣ ≤ 16000) (ltb 16000 ∣ s ∣)
+    (λ long never. let no : _≡_ {A = ℕ} 0 1 = cc in absurd (omega arith)) (λ short is. ltb-false 16000 ∣ s ∣ short)

@@ -2,9 +2,10 @@
 use mathlib.Core.Path.{refl}
 use Rattle.bytes.specs.Bytes.{indexOf}
 use Rattle.sheets.specs.Number.{whole, missCost, digitsForm}
-use Rattle.sheets.specs.Bid.{policyLine, sizeLine, costLine, pageLine, inOrder, meaning}
+use Rattle.sheets.specs.Bid.{policyLine, sizeLine, costLine, pageLine, inOrder, meaningWhere}
 use Rattle.sheets.specs.Result.{decimal, milliseconds, resultSheet, refusedSheet}
-use Rattle.sheets.specs.Examples.{MissCosts, WholeNumbers, Sheets, LookUps, Results}
+use Rattle.sheets.specs.Copy.{copyOf, copied}
+use Rattle.sheets.specs.Examples.{MissCosts, WholeNumbers, Sheets, Copies, LookUps, Results}
 
 pub miss-costs : MissCosts
 unfolding digitsForm missCost indexOf
@@ -35,11 +36,12 @@ whole-numbers = record {
 }
 
 pub sheets : Sheets
-unfolding digitsForm whole missCost policyLine sizeLine costLine pageLine inOrder meaning indexOf
+unfolding digitsForm whole missCost policyLine sizeLine costLine pageLine inOrder meaningWhere indexOf
 sheets = record {
   the-worked = refl;
   empty = refl;
   blank-policy = refl;
+  blank-and-a-return = refl;
   cart-policy = refl;
   fifo-policy = refl;
   clock-policy = refl;
@@ -55,6 +57,17 @@ sheets = record {
   no-final-line-feed = refl;
   first-wrong-decides = refl;
   an-empty-line = refl;
+}
+
+pub copies : Copies
+unfolding digitsForm whole missCost policyLine sizeLine costLine pageLine inOrder meaningWhere indexOf copyOf copied
+copies = record {
+  meant-car = refl;
+  car-written = refl;
+  named-unchanged = refl;
+  wrong-further-down = refl;
+  blank-and-a-return = refl;
+  a-refusal-printed = refl;
 }
 
 pub looked-up : LookUps

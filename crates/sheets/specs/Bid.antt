@@ -5,7 +5,7 @@ use Prim.Native.Nat.{ℕ, suc, _+_}
 use lib.Dec.{ltb}
 use Rattle.terms.specs.Choice.{if_then_else_, ∣_∣, same}
 use Rattle.terms.specs.Limits.{mostPages, mostSheetBytes, knownSize}
-use Rattle.terms.specs.Policies.{Named, car, policies}
+use Rattle.terms.specs.Policies.{Named, car, cart, policies}
 use Rattle.terms.specs.Refusals.{policyNotKnown, sizeNotKnown, tooManyPages, sheetTooLong}
 use Rattle.text.specs.Text.{bytes}
 use Rattle.sheets.specs.Number.{Value, means, wrong, whole, missCost}
@@ -25,7 +25,7 @@ pub data Meaning : Type 0 where
 
 -- THE FIRST THREE LINES
 
--- "`policy=` (car or cart; empty means car)"; "(`fifo`, `clock`, `lru`)" (request 1 of 02)
+-- "`policy=` (car or cart ..)"; "(`fifo`, `clock`, `lru`)" (request 1 of 02)
 pub data PolicyValue : Type 0 where
   named : ℕ → PolicyValue
   blank unknown : PolicyValue
@@ -37,13 +37,14 @@ namedIn (p ∷ l) s = if same s (bytes (p .name)) then named (p .number) else na
 abbrev pub policyValue : List ℕ → PolicyValue
 policyValue s = if same s (bytes "") then blank else namedIn policies s
 
-abbrev pub policyMeant : PolicyValue → Value
-policyMeant (named policy) = means policy
-policyMeant blank = means car
-policyMeant unknown = wrong policyNotKnown
+-- What a blank is differs from one reading of a sheet to another, and is a parameter of it.
+abbrev pub policyMeant : Value → PolicyValue → Value
+policyMeant blankIs (named policy) = means policy
+policyMeant blankIs blank = blankIs
+policyMeant blankIs unknown = wrong policyNotKnown
 
-unfoldable pub policyLine : Lines → Reading
-policyLine ls = under (bytes "policy=") (λ s. policyMeant (policyValue s)) ls
+unfoldable pub policyLine : Value → Lines → Reading
+policyLine blankIs ls = under (bytes "policy=") (λ s. policyMeant blankIs (policyValue s)) ls
 
 -- "9 for others, 2 for a well-formed `pages=` out of range"
 abbrev pub inRange : Value → Value
@@ -95,13 +96,21 @@ abbrev pub afterLine : ℕ → Reading → (ℕ → Lines → Meaning) → Meani
 afterLine n (good value rest) follows = follows value rest
 afterLine n (bad number) follows = refused number n
 
-unfoldable pub inOrder : Lines → Meaning
-inOrder ls =
-    afterLine 1 (policyLine ls) (λ policy ls₂.
+unfoldable pub inOrder : Value → Lines → Meaning
+inOrder blankIs ls =
+    afterLine 1 (policyLine blankIs ls) (λ policy ls₂.
     afterLine 2 (sizeLine ls₂) (λ c ls₃.
     afterLine 3 (costLine ls₃) (λ cost ls₄.
     withPages policy c cost (pagesFrom 0 ls₄))))
 
 -- "A bid sheet, at most 16,000 bytes", "0 for 6 and 7"
-unfoldable pub meaning : List ℕ → Meaning
-meaning s = if ltb mostSheetBytes ∣ s ∣ then refused sheetTooLong 0 else inOrder (lines s)
+unfoldable pub meaningWhere : Value → List ℕ → Meaning
+meaningWhere blankIs s = if ltb mostSheetBytes ∣ s ∣ then refused sheetTooLong 0 else inOrder blankIs (lines s)
+
+-- "from this request an empty `policy=` means cart" (request 2 of 02)
+abbrev pub meaning : List ℕ → Meaning
+meaning = meaningWhere (means cart)
+
+-- "Sheets already filed were scored as CAR": what a sheet meant before that request.
+abbrev pub filedMeaning : List ℕ → Meaning
+filedMeaning = meaningWhere (means car)

@@ -8,9 +8,10 @@ use Rattle.terms.specs.Policies.{car, cart, fifo, clock, lru}
 use Rattle.text.specs.Text.{bytes}
 use Rattle.sheets.specs.Number.{means, wrong, whole, missCost}
 use Rattle.sheets.specs.Lines.{lines}
-use Rattle.sheets.specs.Bid.{Meaning, bid, refused, meaning}
+use Rattle.sheets.specs.Bid.{Meaning, bid, refused, meaning, filedMeaning}
 use Rattle.sheets.specs.LookUp.{between, nowhere, valueOf}
 use Rattle.sheets.specs.Result.{Outcome, resultSheet, refusedSheet}
+use Rattle.sheets.specs.Copy.{copy, notCopied, copyOf, copied}
 
 -- "So `1,250` is 1,250 thousandths, `0,000` is good; `1250`, `1.250`, `01,250` and `1,25` are refused."
 pub record MissCosts : Type 0 where
@@ -49,7 +50,8 @@ sheet s = meaning (bytes s)
 pub record Sheets : Type 0 where
   pub the-worked : sheet worked ≡ aBid car 2 1250 (1 ∷ 2 ∷ 1 ∷ 3 ∷ 2 ∷ 1 ∷ 4 ∷ 2 ∷ [])
   pub empty : sheet "" ≡ refused 8 1
-  pub blank-policy : sheet "policy=\npages=1\nmisscost=0,000\n" ≡ aBid car 1 0 []
+  pub blank-policy : sheet "policy=\npages=1\nmisscost=0,000\n" ≡ aBid cart 1 0 []
+  pub blank-and-a-return : sheet "policy=\r\npages=1\nmisscost=0,000\n" ≡ refused 1 1
   pub cart-policy : sheet "policy=cart\npages=1024\nmisscost=0,001\npage=0\n" ≡ aBid cart 1024 1 (0 ∷ [])
   pub fifo-policy : sheet "policy=fifo\npages=3\nmisscost=0,500\npage=7\n" ≡ aBid fifo 3 500 (7 ∷ [])
   pub clock-policy : sheet "policy=clock\npages=3\nmisscost=0,500\npage=7\n" ≡ aBid clock 3 500 (7 ∷ [])
@@ -65,6 +67,22 @@ pub record Sheets : Type 0 where
   pub no-final-line-feed : sheet "policy=car\npages=2\nmisscost=1,250\npage=1\npage=2" ≡ refused 8 5
   pub first-wrong-decides : sheet "policy=car\npages=2\nmisscost=1,250\npage=1\npage=02\nPage=3\n" ≡ refused 9 5
   pub an-empty-line : sheet "policy=car\npages=2\nmisscost=1,250\n\n" ≡ refused 8 4
+
+-- A sheet filed before request 2 of 02, and its copy.
+abbrev pub filed : String
+filed = "policy=\npages=2\nmisscost=1,250\npage=1\npage=1\n"
+
+abbrev pub filedCopy : String
+filedCopy = "policy=car\npages=2\nmisscost=1,250\npage=1\npage=1\n"
+
+pub record Copies : Type 0 where
+  pub meant-car : filedMeaning (bytes filed) ≡ aBid car 2 1250 (1 ∷ 1 ∷ [])
+  pub car-written : copyOf (bytes filed) ≡ copy (bytes filedCopy)
+  pub named-unchanged : copyOf (bytes "policy=cart\npages=1\nmisscost=0,000\n")
+      ≡ copy (bytes "policy=cart\npages=1\nmisscost=0,000\n")
+  pub wrong-further-down : copyOf (bytes "policy=\npages=2\nmisscost=1,250\npage=1\npage=x\n") ≡ notCopied 9 5
+  pub blank-and-a-return : copyOf (bytes "policy=\r\npages=1\nmisscost=0,000\n") ≡ notCopied 1 1
+  pub a-refusal-printed : copied (bytes "policy=\npages=2\n") ≡ refusedSheet 8 3
 
 pub record LookUps : Type 0 where
   pub third-value : valueOf 0 3 (lines (bytes worked)) ≡ between 28 33

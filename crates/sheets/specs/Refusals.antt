@@ -1,5 +1,5 @@
--- Reader, look-up and writer as total functions: of any bytes and buffers, the answer and all lent memory afterwards.
--- A refused call's answer is its number with zeros elsewhere (the reader: also the line), and all lent memory stays.
+-- Reader, look-up, writer and copy as total functions: of any bytes and buffers, the answer and lent memory afterwards.
+-- A refused call's answer is its number with zeros elsewhere (reader, copy: also the line), and all lent memory stays.
 use mathlib.Core.Bool.{not}
 use mathlib.Core.List.{List, _++_}
 use Prim.Native.Nat.{ℕ}
@@ -13,6 +13,7 @@ use Rattle.sheets.specs.Lines.{lines}
 use Rattle.sheets.specs.Bid.{Meaning, bid, refused, meaning}
 use Rattle.sheets.specs.LookUp.{Place, between, nowhere, valueOf}
 use Rattle.sheets.specs.Result.{Outcome, resultSheet}
+use Rattle.sheets.specs.Copy.{Copy, copy, notCopied, copyOf}
 
 -- What is written stands in front; later words stay.
 abbrev pub over : List ℕ → List ℕ → List ℕ
@@ -81,3 +82,19 @@ onWrite r out =
     if not (knownPolicy (r .policy)) then record { number = policyNotKnown; count = 0; out = out }
     else if ltb ∣ out ∣ leastResultBytes then record { number = bufferTooShort; count = 0; out = out }
     else record { number = accepted; count = ∣ resultSheet r ∣; out = over (resultSheet r) out }
+
+pub record Copied : Type 0 where
+  pub number : ℕ
+  pub line : ℕ
+  pub count : ℕ
+  pub out : List ℕ
+
+abbrev pub copiedInto : Copy → List ℕ → Copied
+copiedInto (copy s) out = record { number = accepted; line = 0; count = ∣ s ∣; out = over s out }
+copiedInto (notCopied number line) out = record { number = number; line = line; count = 0; out = out }
+
+-- Too few bytes for any copy are 6, as with the reader's buffer; then the sheet decides.
+unfoldable pub onCopy : List ℕ → List ℕ → Copied
+onCopy sheet out =
+    if ltb ∣ out ∣ mostSheetBytes then copiedInto (notCopied bufferTooShort 0) out
+    else copiedInto (copyOf sheet) out

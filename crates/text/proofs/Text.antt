@@ -1,8 +1,8 @@
 -- Bytes from a place on and up to another; a key in front of bytes, read on from a place, as a loop does; and two texts
 -- of one length, which are the same where one starts with the other.
-use mathlib.Core.Path.{_≡_, refl, sym, ap, _∙_}
+use mathlib.Core.Path.{_≡_, refl, sym, ap, ap₂, _∙_}
 use mathlib.Core.Bool.{Bool, true, false, false≢true}
-use mathlib.Core.List.{List, [], _∷_}
+use mathlib.Core.List.{List, [], _∷_, _++_}
 use Prim.Native.Nat.{ℕ, zero, suc, _+_, _-_, _≤_, _<_}
 use native.Mathlib.Nat.{sub-zero, zero-sub, suc-sub-suc}
 use native.Mathlib.Numerals.{add-one}
@@ -44,6 +44,12 @@ pub starts-fits : (key s : List ℕ) → starts key s ≡ true → ∣ key ∣ �
 starts-fits [] s is = omega arith
 starts-fits (k ∷ key) [] is = absurd (false≢true is)
 starts-fits (k ∷ key) (b ∷ s) is = let both = simp reads at is in omega (arith, starts-fits key s (both .1))
+
+-- The key, and the bytes behind it.
+pub starts-splits : (key s : List ℕ) → starts key s ≡ true → s ≡ key ++ drop ∣ key ∣ s
+starts-splits [] s is = refl
+starts-splits (k ∷ key) [] is = absurd (false≢true is)
+starts-splits (k ∷ key) (b ∷ s) is = let both = simp reads at is in ap₂ _∷_ (both .0) (starts-splits key s (both .1))
 
 module _ (key s : List ℕ) (i : ℕ) (in-key : i < ∣ key ∣) (in-bytes : i < ∣ s ∣) where
   pub key-goes-on : getD s i 0 ≡ getD key i 0
