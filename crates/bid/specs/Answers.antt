@@ -10,7 +10,7 @@ use Rattle.sheets.specs.Number.{Value}
 use Rattle.sheets.specs.Lines as Lines
 use Rattle.sheets.specs.Lines.{lines, good, bad, before, under}
 use Rattle.sheets.specs.Bid as Bid
-use Rattle.sheets.specs.Bid.{named, blank, unknown, Pages, listed, refusedAt, pagesFrom}
+use Rattle.sheets.specs.Bid.{named, blank, unknown, bid, Pages, listed, refusedAt, pagesFrom}
 use Rattle.sheets.specs.Refusals.{over}
 use Rattle.bid.specs.declared.keyed_lines.Keyed.{Keyed}
 use Rattle.bid.specs.declared.keyed_lines.Keyed.the-variants as Keyed
@@ -20,6 +20,8 @@ use Rattle.bid.specs.declared.keyed_lines.Reading.{Reading}
 use Rattle.bid.specs.declared.keyed_lines.Reading.the-variants as Reading
 use Rattle.bid.specs.declared.Listed.{Listed}
 use Rattle.bid.specs.declared.Listed.the-variants as Listed
+use Rattle.bid.specs.declared.Judged.{Judged}
+use Rattle.bid.specs.Promises.{refusedBid, bidOf}
 
 -- A LINE UNDER ITS KEY
 
@@ -83,3 +85,14 @@ sizeOf (refusedAt number line) = Listed.Refused number line
 -- Good page lines, from a place on, written into a buffer.
 abbrev pub PagesFilled : List ℕ → ℕ → List ℕ → List ℕ → Type 0
 PagesFilled s start w w′ = (pages : List ℕ) → pagesFrom 0 (lines (drop start s)) ≡ listed pages → w′ ≡ over pages w
+
+-- THE SHEET BEFORE ITS PAGES ARE WRITTEN
+
+-- A refused sheet has no page lines.
+abbrev pub refusedJudged : ℕ → ℕ → Judged
+refusedJudged number line = record { bid = refusedBid number line; start = 0 }
+
+-- The answer is the meaning's, and the page lines of an accepted sheet start at the place.
+pub record JudgedAs (s : List ℕ) (m : Bid.Meaning) (r : Judged) : Type 0 where
+  pub answer-is : r .bid ≡ bidOf m
+  pub pages-there : (b : Bid.Bid) → m ≡ bid b → pagesFrom 0 (lines (drop (r .start) s)) ≡ listed (b .pages)

@@ -2,6 +2,7 @@
 // where it stands: its value and where the next line starts, or which refusal it is.
 ghost use mathlib.Core.Path.{_≡_};
 ghost use lib.ListN.{drop};
+ghost use Rattle.sheets.specs.Number.{means};
 ghost use Rattle.sheets.specs.Lines.{lines};
 ghost use Rattle.sheets.specs.Bid.{policyValue, policyLine, sizeLine, costLine, pageLine};
 ghost use Rattle.bid.specs.Answers.{KeyedAt, policyCase, ReadsLine, numberOf};
@@ -83,9 +84,10 @@ fn policy_value(text: &[u8]) -> PolicyValue
     PolicyValue::Unknown
 }
 
-// The first line: a blank policy means car.
-pub fn policy_line(sheet: &[u8], at: usize) -> Reading
-    ensures { λ r. ⌜ ReadsLine (now (sheet .entry)) at (policyLine (lines (drop at (now (sheet .entry))))) r ⌝ }
+// The first line, in a reading where a blank means this policy.
+pub fn policy_line(sheet: &[u8], at: usize, blank: u32) -> Reading
+    ensures { λ r. ⌜ ReadsLine (now (sheet .entry)) at
+        (policyLine (means blank) (lines (drop at (now (sheet .entry))))) r ⌝ }
 {
     let Keyed::Value(start, end) = under_key(sheet, at, b"policy=") else {
         return Reading::NoSuchLine;
@@ -93,7 +95,7 @@ pub fn policy_line(sheet: &[u8], at: usize) -> Reading
     let policy = policy_value(&sheet[start..end]);
     match policy {
         PolicyValue::Named(policy) => Reading::Good(policy, end + 1),
-        PolicyValue::Blank => Reading::Good(policies::CAR, end + 1),
+        PolicyValue::Blank => Reading::Good(blank, end + 1),
         PolicyValue::Unknown => Reading::PolicyNotKnown,
     }
 }

@@ -3,16 +3,17 @@
 ghost use mathlib.Core.Path.{_≡_};
 ghost use Prim.Native.Nat.{_≤_};
 ghost use lib.ListN.{length, drop};
+ghost use Rattle.sheets.specs.Number.{means};
 ghost use Rattle.sheets.specs.Lines.{lines};
-ghost use Rattle.sheets.specs.Bid.{pagesFrom, inOrder};
-ghost use Rattle.sheets.specs.Refusals.{answer};
-ghost use Rattle.bid.specs.Answers.{sizeOf, PagesFilled};
-ghost use Rattle.bid.specs.Promises.{refusedBid, ReadAs, BidRead};
+ghost use Rattle.sheets.specs.Bid.{pagesFrom, meaningWhere};
+ghost use Rattle.bid.specs.Answers.{sizeOf, PagesFilled, refusedJudged, JudgedAs};
+ghost use Rattle.bid.specs.Promises.{BidJudged, BidRead};
 
 mod keyed_lines;
 
 use keyed_lines::Reading;
 use terms::limits;
+use terms::policies;
 use terms::refusals;
 
 // The reader's answer; zeros beside the number and line of a refusal.
@@ -31,16 +32,25 @@ pub enum Listed {
     Refused(u32, u32),
 }
 
-fn refused(number: u32, line: u32) -> Bid
-    ensures { λ r. ⌜ r ≡ refusedBid number line ⌝ }
+// A sheet before its pages are written: the answer, and where its page lines start.
+pub struct Judged {
+    pub bid: Bid,
+    pub start: usize,
+}
+
+fn refused(number: u32, line: u32) -> Judged
+    ensures { λ r. ⌜ r ≡ refusedJudged number line ⌝ }
 {
-    Bid {
-        number,
-        line,
-        policy: 0,
-        c: 0,
-        cost: 0,
-        count: 0,
+    Judged {
+        bid: Bid {
+            number,
+            line,
+            policy: 0,
+            c: 0,
+            cost: 0,
+            count: 0,
+        },
+        start: 0,
     }
 }
 
@@ -78,13 +88,14 @@ fn fill(sheet: &[u8], start: usize, pages: &mut [u32])
     }
 }
 
-// The lines from the top: the first that is wrong decides.
-fn read_lines(sheet: &[u8], pages: &mut [u32]) -> Bid
-    requires { ⌜ 1000 ≤ length (now pages) ⌝ }
-    ensures { λ r. ⌜ ReadAs (answer (inOrder (lines (now (sheet .entry)))) (now (pages .entry)))
-        r (now (pages .exit)) ⌝ }
+// Refusal 7, then the lines from the top: the first that is wrong decides. A blank policy is read as `blank`.
+fn judge_sheet(sheet: &[u8], blank: u32) -> Judged
+    ensures { λ r. ⌜ JudgedAs (now (sheet .entry)) (meaningWhere (means blank) (now (sheet .entry))) r ⌝ }
 {
-    let policy_read = keyed_lines::policy_line(sheet, 0);
+    if limits::MOST_SHEET_BYTES < sheet.len() {
+        return refused(refusals::SHEET_TOO_LONG, 0);
+    }
+    let policy_read = keyed_lines::policy_line(sheet, 0, blank);
     let Reading::Good(policy, second) = policy_read else {
         return refused(keyed_lines::number_of(policy_read), 1);
     };
@@ -99,29 +110,41 @@ fn read_lines(sheet: &[u8], pages: &mut [u32]) -> Bid
     let listed = count_pages(sheet, fourth);
     match listed {
         Listed::Refused(number, line) => refused(number, line),
-        Listed::Pages(count) => {
-            fill(sheet, fourth, pages);
-            Bid {
+        Listed::Pages(count) => Judged {
+            bid: Bid {
                 number: refusals::ACCEPTED,
                 line: 0,
                 policy,
                 c,
                 cost,
                 count,
-            }
-        }
+            },
+            start: fourth,
+        },
     }
 }
 
-// Reads a bid sheet: refusals 6 and 7, then the lines from the top.
+// Judges a bid sheet, in a reading where a blank policy means `blank`: the reader's answer, for callers that want no
+// pages.
+pub fn judge(sheet: &[u8], blank: u32) -> Bid
+    ensures { λ r. ⌜ BidJudged (now (sheet .entry)) blank r ⌝ }
+{
+    let judged = judge_sheet(sheet, blank);
+    judged.bid
+}
+
+// Reads a bid sheet, a blank policy as cart: refusals 6 and 7, then the lines from the top.
 pub fn read(sheet: &[u8], pages: &mut [u32]) -> Bid
     ensures { λ r. ⌜ BidRead (now (sheet .entry)) (now (pages .entry)) r (now (pages .exit)) ⌝ }
 {
     if pages.len() < limits::MOST_PAGES {
-        return refused(refusals::BUFFER_TOO_SHORT, 0);
+        let short = refused(refusals::BUFFER_TOO_SHORT, 0);
+        return short.bid;
     }
-    if limits::MOST_SHEET_BYTES < sheet.len() {
-        return refused(refusals::SHEET_TOO_LONG, 0);
+    let judged = judge_sheet(sheet, policies::CART);
+    if judged.bid.number != refusals::ACCEPTED {
+        return judged.bid;
     }
-    read_lines(sheet, pages)
+    fill(sheet, judged.start, pages);
+    judged.bid
 }

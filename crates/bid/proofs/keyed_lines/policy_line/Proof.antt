@@ -5,6 +5,7 @@ use native.Mathlib.Omega.{arith}
 use lib.ListN.{take, drop}
 use borrow.Author.Needs.{needs}
 use Rattle.text.specs.Text.{bytes}
+use Rattle.sheets.specs.Number.{means}
 use Rattle.sheets.specs.Bid.{policyValue, policyMeant, policyLine}
 use Rattle.bid.specs.Answers.{KeyedAt, policyCase}
 use Rattle.bid.specs.declared.keyed_lines.Keyed.the-variants.{Value}
@@ -30,8 +31,9 @@ found c = subst (KeyedAt _ _ _) (c .start .given .1) (c .before .before .under-k
 
 is-case : (c : tie.After-policy-value) (v : PolicyValue) → c .policy-value .result ≡ v
     → let f = after-start c in let s = at-start f .args .sheet .now in let p = f .start .given .0 in
-    policyMeant (policyValue (take (p .1 .0 - p .0) (drop (p .0) s))) ≡ policyMeant (policyCase v)
-is-case c v is = ap policyMeant (sym (c .policy-value .ensures) ∙ ap policyCase is)
+    let blankIs = means (at-start f .args .blank) in
+    policyMeant blankIs (policyValue (take (p .1 .0 - p .0) (drop (p .0) s))) ≡ policyMeant blankIs (policyCase v)
+is-case c v is = ap (policyMeant _) (sym (c .policy-value .ensures) ∙ ap policyCase is)
 
 returns : tie.Need-returns
 unfolding policyLine
