@@ -8,7 +8,7 @@ use Rattle.result.specs.declared.Written.{Written}
 use Rattle.result.specs.Promises.{Wrote, WroteSheet, WroteRefusal, WroteRequest}
 
 module _ {out₁ out₂ : List ℕ} {r s : Written} where
-  determined : {w : Sheets.Written} → Wrote w r out₁ → Wrote w s out₂ → (r ≡ s) × (out₁ ≡ out₂)
+  pub determined : {w : Sheets.Written} → Wrote w r out₁ → Wrote w s out₂ → (r ≡ s) × (out₁ ≡ out₂)
   determined a b =
       let number : r .number ≡ s .number = a .number-is ∙ sym (b .number-is) in
       let count : r .count ≡ s .count = a .count-is ∙ sym (b .count-is) in
