@@ -1,11 +1,18 @@
-// The programs score and ledger: a bid sheet from standard input; its result sheet or two lines of a refusal, and for
-// the ledger a line for each request, to standard output. What they print is scoring's, which is proved.
+// The programs score, ledger and copy: a bid sheet from standard input; to standard output its result sheet, for the
+// ledger also a line for each request, or its copy; or two lines of a refusal. What is printed is proved in scoring and
+// copying.
 ghost use Prim.Native.Nat.{_≤_};
 ghost use lib.ListN.{length};
 
+pub enum Program {
+    Score,
+    Ledger,
+    Copy,
+}
+
 // What is to be printed of the sheet stands in front of out, so many bytes.
-fn scored(
-    with_ledger: bool,
+fn answered(
+    program: Program,
     sheet: &[u8],
     pages: &mut [u32],
     dir: &mut [u32],
@@ -14,17 +21,25 @@ fn scored(
 ) -> usize
     ensures { λ r. ⌜ r ≤ length (now (out .exit)) ⌝ }
 {
-    if with_ledger {
-        let scored = scoring::ledger(sheet, pages, dir, answers, out);
-        return scored.count;
+    match program {
+        Program::Score => {
+            let scored = scoring::score(sheet, pages, dir, answers, out);
+            scored.count
+        }
+        Program::Ledger => {
+            let scored = scoring::ledger(sheet, pages, dir, answers, out);
+            scored.count
+        }
+        Program::Copy => {
+            let copied = copying::answer(sheet, out);
+            copied.count
+        }
     }
-    let scored = scoring::score(sheet, pages, dir, answers, out);
-    scored.count
 }
 
 // Reads the sheet and prints; the program's status.
 fn answer(
-    with_ledger: bool,
+    program: Program,
     sheet: &mut [u8],
     pages: &mut [u32],
     dir: &mut [u32],
@@ -34,19 +49,19 @@ fn answer(
     let streams::Input::Came(n) = streams::read_input(sheet) else {
         return 1;
     };
-    let count = scored(with_ledger, &sheet[0..n], pages, dir, answers, out);
+    let count = answered(program, &sheet[0..n], pages, dir, answers, out);
     if streams::print(&out[0..count]) { 0 } else { 1 }
 }
 
-// Lends memory that is enough for either. Of a sheet that is too long, one byte too many is read.
-fn run(with_ledger: bool) -> i32 {
+// Lends memory that is enough for each. Of a sheet that is too long, one byte too many is read.
+fn run(program: Program) -> i32 {
     let mut sheet = [0u8; 16001];
     let mut pages = [0u32; 1000];
     let mut dir = [0u32; 4104];
     let mut answers = [0u32; 4000];
     let mut out = [0u8; 256256];
     answer(
-        with_ledger,
+        program,
         &mut sheet,
         &mut pages,
         &mut dir,
@@ -58,10 +73,15 @@ fn run(with_ledger: bool) -> i32 {
 // The programs, which c/main.c starts: their status.
 #[no_mangle]
 pub extern "C" fn score() -> i32 {
-    run(false)
+    run(Program::Score)
 }
 
 #[no_mangle]
 pub extern "C" fn ledger() -> i32 {
-    run(true)
+    run(Program::Ledger)
+}
+
+#[no_mangle]
+pub extern "C" fn copy() -> i32 {
+    run(Program::Copy)
 }

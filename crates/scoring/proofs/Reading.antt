@@ -6,6 +6,7 @@ use native.Mathlib.Omega.{arith}
 use lib.ListN.{take}
 use lib.Seq.{take-at}
 use Rattle.terms.specs.Choice.{∣_∣}
+use Rattle.terms.specs.Policies.{cart}
 use Rattle.sheets.specs.Bid.{Meaning, bid, refused, meaning}
 use Rattle.sheets.specs.Refusals.{answer, over}
 use Rattle.sheets.proofs.Bids.{refusal-has-number}
@@ -53,4 +54,4 @@ module _ (s w : List ℕ) (room : 1000 ≤ ∣ w ∣) (r : Bid) (w′ : List ℕ
       let least = numbered number line refl in absurd (omega (arith, a .number-is))
 
   pub sheet-accepted : r .number ≡ 0 → Accepted (meaning s) w r w′
-  sheet-accepted none = accepted-as (meaning s) by-meaning (refusal-has-number s) none
+  sheet-accepted none = accepted-as (meaning s) by-meaning (refusal-has-number cart refl s) none

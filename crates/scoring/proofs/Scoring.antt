@@ -6,6 +6,7 @@ use native.Mathlib.Omega.{arith}
 use lib.ListN.{take, drop}
 use lib.Seq.{length-take-le}
 use Rattle.terms.specs.Choice.{∣_∣}
+use Rattle.terms.specs.Policies.{cart}
 use Rattle.figures.specs.Run as Run
 use Rattle.figures.specs.Words.{encode}
 use Rattle.tally.specs.declared.Tally.{Tally}
@@ -99,7 +100,7 @@ module _ (s : List ℕ) {pages dir answers out : List ℕ} (lent : Lent 256 page
     accepted = sheet-accepted s pages (lent .pages-fit) b pages′ read none
 
     in-range : InRange (meant b pages′)
-    in-range = bids-in-range s (meant b pages′) (accepted .means-bid)
+    in-range = bids-in-range cart refl s (meant b pages′) (accepted .means-bid)
 
     few : b .count ≤ 1000
     few = omega (arith, accepted .as-many, in-range .pages-at-most)

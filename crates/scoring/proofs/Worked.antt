@@ -7,7 +7,7 @@ use Rattle.figures.specs.Request.{missed, serve}
 use Rattle.figures.specs.Run.{runFrom}
 use Rattle.bytes.specs.Bytes.{indexOf}
 use Rattle.sheets.specs.Number.{digitsForm, whole, missCost}
-use Rattle.sheets.specs.Bid.{policyLine, sizeLine, costLine, pageLine, inOrder, meaning}
+use Rattle.sheets.specs.Bid.{policyLine, sizeLine, costLine, pageLine, inOrder, meaningWhere}
 use Rattle.sheets.specs.Result.{decimal, milliseconds, resultSheet}
 use Rattle.result.specs.Ledger.{requestLine}
 use Rattle.scoring.specs.Scored.{printed, scored, ledgerLines, requestLines, ledgered}
@@ -15,7 +15,7 @@ use Rattle.scoring.specs.Scored.{RunToReproduce, WorkedLedger}
 
 both : RunToReproduce × WorkedLedger
 unfolding placeNew runFrom serve missed repeat Car.evict Car.trim Car.placeB1 Car.placeB2
-    digitsForm whole missCost policyLine sizeLine costLine pageLine inOrder meaning indexOf
+    digitsForm whole missCost policyLine sizeLine costLine pageLine inOrder meaningWhere indexOf
     decimal milliseconds resultSheet requestLine printed scored ledgerLines requestLines ledgered
 both = (refl, refl)
 

@@ -7,8 +7,9 @@ use lib.ListN.{getD, drop}
 use Rattle.figures.specs.Directory.{fresh}
 use Rattle.figures.specs.Run.{Tally, Ran, run}
 use Rattle.text.specs.Text.{bytes}
-use Rattle.sheets.specs.Bid.{Bid, Meaning, bid, refused, meaning}
+use Rattle.sheets.specs.Bid.{Bid, Meaning, bid, refused, meaning, filedMeaning}
 use Rattle.sheets.specs.Result.{Outcome, resultSheet, refusedSheet}
+use Rattle.sheets.specs.Copy.{copy, copyOf, copied}
 use Rattle.sheets.specs.Examples.{worked}
 use Rattle.result.specs.Ledger.{requestLine}
 
@@ -72,3 +73,12 @@ WorkedLedger = ledgered (bytes worked)
     ++ (bytes "request=6 page=1 kind=0 evicted=0 list=0 moves=0\n"
     ++ (bytes "request=7 page=4 kind=2 evicted=2 list=2 moves=2\n"
     ++ bytes "request=8 page=2 kind=4 evicted=4 list=1 moves=1\n")))))))
+
+-- "so an old line can be reproduced": of the copy, both programs print what the sheet came to when it was filed.
+pub record Reproduced (sheet : List ℕ) : Type 0 where
+  pub score-again : scored (copied sheet) ≡ printed (filedMeaning sheet)
+  pub ledger-again : ledgered (copied sheet) ≡ printed (filedMeaning sheet) ++ requestLines (filedMeaning sheet)
+
+-- [proofs/Filed]
+abbrev pub OldLinesReproduced : Type 0
+OldLinesReproduced = (sheet t : List ℕ) → copyOf sheet ≡ copy t → Reproduced sheet
