@@ -1,14 +1,18 @@
 // Bid sheets as bytes: good ones, damaged ones, and those at the limits of 01.
 // Used by the groups "sheets" and "programs".
 
-use crate::policy::{CAR, CART, CLOCK, FIFO, LRU};
+use crate::policy::{BLANK, CAR, CART, CLOCK, FIFO, LRU};
 use crate::random::Random;
 
-/// Names and numbers as they are drawn: CAR and CART, where more can go wrong, four times as often as each of the three.
+/// Names and numbers as they are drawn: CAR and CART, where more can go wrong, four times as often as each of the three,
+/// half of CART's by a blank.
 pub const DRAWN: [(&str, u32); 11] = [
-    ("car", CAR), ("car", CAR), ("", CAR), ("", CAR), ("cart", CART), ("cart", CART), ("cart", CART), ("cart", CART),
+    ("car", CAR), ("car", CAR), ("car", CAR), ("car", CAR), ("", BLANK), ("", BLANK), ("cart", CART), ("cart", CART),
     ("fifo", FIFO), ("clock", CLOCK), ("lru", LRU),
 ];
+
+/// The five names, each once.
+pub const NAMES: [&str; 5] = ["car", "cart", "fifo", "clock", "lru"];
 
 /// A sheet of these lines, each closed by a line feed.
 pub fn of_lines(lines: &[String]) -> Vec<u8> {
@@ -27,9 +31,9 @@ pub fn good_of(policy: &str, pages: &str, cost: &str, trace: &[u32]) -> Vec<u8> 
     of_lines(&lines)
 }
 
-/// A well-formed sheet of exactly this many bytes (15,000 to 16,035), 1,000 page lines.
-pub fn of_length(bytes: usize) -> Vec<u8> {
-    let mut sheet = good_of("cart", "5", "0,001", &[]);
+/// A well-formed sheet of exactly this many bytes (7,036 to 16,031), 1,000 page lines.
+pub fn of_length(policy: &str, bytes: usize) -> Vec<u8> {
+    let mut sheet = good_of(policy, "5", "0,001", &[]);
     let mut left = bytes - sheet.len();
     for lines in (1..=1000).rev() {
         let length = (left / lines).clamp(7, 16);
@@ -188,12 +192,8 @@ pub fn many_pages(random: &mut Random) -> Vec<u8> {
 /// About 16,000 bytes: well-formed ones, and 15,999 to 17,000 of other contents.
 pub fn long(random: &mut Random) -> Vec<u8> {
     if random.chance(60) {
-        let mut sheet = of_length(random.pick(&[15990, 15999, 16000, 16000, 16001, 16002, 16030]));
-        if random.chance(25) {
-            let at = random.below(sheet.len());
-            sheet[at] = random.pick(b"\nx=0");
-        }
-        return sheet;
+        let length = random.pick(&[15990, 15999, 16000, 16000, 16001, 16002, 16030]);
+        return about_of_length(random, "cart", length);
     }
     let length = random.pick(&[15999, 16000, 16001, 16002, 16500, 17000]);
     let mut sheet = good(random);
@@ -201,6 +201,16 @@ pub fn long(random: &mut Random) -> Vec<u8> {
     sheet.resize(length, fill);
     if random.chance(50) {
         sheet[length - 1] = b'\n';
+    }
+    sheet
+}
+
+/// A sheet of this many bytes, one of them damaged in one sheet of four.
+pub fn about_of_length(random: &mut Random, policy: &str, bytes: usize) -> Vec<u8> {
+    let mut sheet = of_length(policy, bytes);
+    if random.chance(25) {
+        let at = random.below(sheet.len());
+        sheet[at] = random.pick(b"\nx=0");
     }
     sheet
 }
@@ -226,20 +236,21 @@ pub fn any_short(random: &mut Random) -> Vec<u8> {
 #[cfg(test)]
 mod tests {
     use super::*;
-    use crate::sheet::read_sheet;
+    use crate::sheet::read_whole;
 
     #[test]
     fn good_sheets_are_read() {
         let mut random = Random::new(3);
-        let mut pages = vec![0; 1000];
         for _ in 0..200 {
-            assert!(read_sheet(&good(&mut random), &mut pages).is_ok());
-            assert!(read_sheet(&of_pages(&mut random, 1000), &mut pages).is_ok());
+            assert!(read_whole(&good(&mut random), BLANK).is_ok());
+            assert!(read_whole(&of_pages(&mut random, 1000), BLANK).is_ok());
         }
-        for length in [15000, 15999, 16000] {
-            assert_eq!(of_length(length).len(), length);
-            assert!(read_sheet(&of_length(length), &mut pages).is_ok());
+        for name in NAMES.into_iter().chain([""]) {
+            for length in [7036, 15000, 15997, 16000] {
+                assert_eq!(of_length(name, length).len(), length);
+                assert!(read_whole(&of_length(name, length), BLANK).is_ok());
+            }
+            assert_eq!((of_length(name, 16001).len(), of_length(name, 16031).len()), (16001, 16031));
         }
-        assert_eq!((of_length(16001).len(), of_length(16030).len()), (16001, 16030));
     }
 }

@@ -1,10 +1,12 @@
-// Drives the other side's probe, score and ledger as child processes with seeded inputs and compares
+// Drives the other side's probe, score, ledger and copy as child processes with seeded inputs and compares
 // every answer word, all lent memory and the processes' ends with our own; tells each group's first difference.
 
+use crate::copy::{copy_of, means_as_before};
+use crate::copy_sheets::copy_sheets;
 use crate::drive::{drive, our_own, Did, End};
 use crate::inputs::{program_sheets, wire_streams, Group, GROUPS};
 use crate::probe::{answer, op, probe, put_call, shape, to_bytes, Call, Words};
-use crate::programs::{ledger, score};
+use crate::programs::{copy, ledger, score};
 use crate::random::Random;
 use crate::tell;
 
@@ -21,16 +23,20 @@ struct Count {
 pub fn compare(seed: u64, full: bool, command: &[String]) -> usize {
     let mut counts = Vec::new();
     for (at, group) in GROUPS.iter().enumerate() {
-        let mut random = Random::new(seed.wrapping_mul(1000).wrapping_add(at as u64));
-        counts.push(compare_group(group, &mut random, full, command));
+        counts.push(compare_group(group, &mut random_of(seed, at as u64), full, command));
     }
-    let mut random = Random::new(seed.wrapping_mul(1000).wrapping_add(900));
-    counts.push(compare_programs(&mut random, full, command));
+    let mut random = random_of(seed, 900);
+    counts.push(compare_programs(&mut random, &mut random_of(seed, 901), full, command));
     counts.push(compare_wire(&mut random, full, command));
     let cases: usize = counts.iter().map(|count| count.cases).sum();
     let differences = counts.iter().map(|count| count.differences).sum();
     println!("seed={seed} cases={cases} differences={differences}");
     differences
+}
+
+/// Each part of the comparison has its own draws.
+fn random_of(seed: u64, part: u64) -> Random {
+    Random::new(seed.wrapping_mul(1000).wrapping_add(part))
 }
 
 impl Count {
@@ -102,16 +108,33 @@ fn take_answer(stream: &mut Words, op: u32) -> Option<Vec<u32>> {
 
 // ---- programs and wire ----
 
-fn compare_programs(random: &mut Random, full: bool, command: &[String]) -> Count {
+/// Score and ledger over the same sheets, copy over its own.
+fn compare_programs(random: &mut Random, for_copies: &mut Random, full: bool, command: &[String]) -> Count {
     let mut count = Count::new("programs");
     for sheet in program_sheets(random, if full { 970 } else { 210 }) {
         for (name, program) in [("score", score as fn(&[u8]) -> Vec<u8>), ("ledger", ledger)] {
-            let ours = Did { output: program(&sheet), end: End::good() };
-            let theirs = drive(command, name, sheet.clone());
+            let (ours, theirs) = both_sides(name, program, &sheet, command);
             count.case((!theirs.alike(&ours)).then_some(|| tell::texts(name, &sheet, &ours, &theirs)));
         }
     }
+    for sheet in copy_sheets(for_copies, if full { 931 } else { 45 }) {
+        compare_copy(&sheet, &mut count, command);
+    }
     count.print()
+}
+
+/// What our program and the other side's do over the sheet.
+fn both_sides(name: &str, program: fn(&[u8]) -> Vec<u8>, sheet: &[u8], command: &[String]) -> (Did, Did) {
+    let ours = Did { output: program(sheet), end: End::good() };
+    (ours, drive(command, name, sheet.to_vec()))
+}
+
+/// Both sides alike; and if the sheet is copied, theirs means what the sheet meant, which tells a fault of ours as well.
+fn compare_copy(sheet: &[u8], count: &mut Count, command: &[String]) {
+    let (ours, theirs) = both_sides("copy", copy, sheet, command);
+    let means_other = copy_of(sheet).is_ok() && !means_as_before(sheet, &theirs.output);
+    let differs = means_other || !theirs.alike(&ours);
+    count.case(differs.then_some(|| tell::copies(sheet, &ours, &theirs, means_other)));
 }
 
 fn compare_wire(random: &mut Random, full: bool, command: &[String]) -> Count {
@@ -135,6 +158,25 @@ mod tests {
         let mut count = Count::new("checks");
         compare_calls(&[Call::Check { dir: vec![] }, Call::Check { dir: vec![] }], &mut count, &command);
         (count.cases, count.differences)
+    }
+
+    /// Differences of the copies of these sheets against a shell's.
+    fn shell_copies(text: &str, sheets: &[Vec<u8>]) -> usize {
+        let command = ["sh", "-c", text, "sh"].map(str::to_string);
+        let mut count = Count::new("copies");
+        sheets.iter().for_each(|sheet| compare_copy(sheet, &mut count, &command));
+        count.differences
+    }
+
+    #[test]
+    fn copies_are_compared() {
+        let good = ["", "car", "cart", "lru"].map(crate::bids::worked);
+        let refused = [crate::bids::of_length("", 15_998), crate::bids::of_length("lru", 16_001)];
+        let seven = "cat >/dev/null; printf 'refused=7\\nline=0\\n'";
+        assert_eq!(shell_copies("sed '1s/=$/=car/'", &good), 0);
+        assert_eq!((shell_copies("cat", &good), shell_copies("sed '1s/=$/=cart/'", &good)), (1, 1));
+        assert_eq!((shell_copies("sed '1s/=.*$/=car/'", &good), shell_copies("sed '1s/=$/=car/'; exit 1", &good)), (2, 4));
+        assert_eq!((shell_copies(seven, &refused), shell_copies("sed '1s/=$/=car/'", &refused), shell_copies(seven, &good)), (0, 2, 4));
     }
 
     #[test]

@@ -408,10 +408,12 @@ fn wait(random: &mut Random) -> u64 {
 
 // ---- programs ----
 
-/// Sheets for score and ledger: the worked one under all policies and the limits, then so many freely drawn ones.
+/// Sheets for score and ledger: the worked one under all policies, blank, and blank but for a CR; the limits; then so many
+/// freely drawn ones.
 pub fn program_sheets(random: &mut Random, drawn: usize) -> Vec<Vec<u8>> {
-    let mut sheets = ["car", "cart", "fifo", "clock", "lru"].map(bids::worked).to_vec();
-    sheets.extend([vec![], bids::of_length(16000), bids::of_length(16001)]);
+    let mut sheets = bids::NAMES.map(bids::worked).to_vec();
+    sheets.extend(["", "\r"].map(bids::worked));
+    sheets.extend([vec![], bids::of_length("cart", 16000), bids::of_length("cart", 16001)]);
     let mut over = bids::worked("car");
     over.resize(40_000, b'\n');
     sheets.extend([over, bids::of_pages(random, 1000), bids::of_pages(random, 1001), vec![b'='; 17_000], vec![b'\n'; 100_000]]);
@@ -525,12 +527,12 @@ fn few_calls(random: &mut Random) -> Vec<u32> {
 mod tests {
     use super::*;
     use crate::directory::check;
-    use crate::policy::CLOCK;
+    use crate::policy::{BLANK, CLOCK};
     use crate::probe::probe;
     use crate::programs::score;
-    use crate::sheet::read_sheet;
+    use crate::sheet::read_whole;
 
-    const LISTED: usize = 13;
+    const LISTED: usize = 15;
 
     /// Whether each kind of each policy came more often than this, and none that the policy has not.
     fn all_kinds(kinds: &[[usize; 5]; 6], often: usize) -> bool {
@@ -596,6 +598,22 @@ mod tests {
         }
     }
 
+    /// Blank are more than one in ten of the sheets that the probe reads or that are scored, and of the good ones.
+    #[test]
+    fn blanks_are_often_drawn() {
+        let read = sheets(&mut Random::new(6), 4_000).into_iter().filter_map(|call| match call {
+            Call::Read { sheet, pages } if pages.len() >= 1000 => Some(sheet),
+            _ => None,
+        });
+        for drawn in [read.collect(), program_sheets(&mut Random::new(6), 970)] {
+            let blank: Vec<&Vec<u8>> = drawn.iter().filter(|sheet| sheet.starts_with(b"policy=\n")).collect();
+            let good = drawn.iter().filter(|sheet| read_whole(sheet, BLANK).is_ok()).count();
+            let both = blank.iter().filter(|sheet| read_whole(sheet, BLANK).is_ok()).count();
+            println!("{} drawn, {} blank, {good} good, {both} both", drawn.len(), blank.len());
+            assert!(10 * blank.len() > drawn.len() && 10 * both > good && both > 40);
+        }
+    }
+
     #[test]
     fn full_directories_of_the_largest_size_are_run() {
         let (mut evicting, mut kinds) = ([0; 6], [0; 5]);
@@ -628,12 +646,11 @@ mod tests {
     fn drawn_sheets_are_of_all_kinds() {
         let (mut refusals, mut kinds, mut sizes) = ([0; 10], [[0; 5]; 6], [[0; 5]; 2]);
         for sheet in program_sheets(&mut Random::new(3), 970).split_off(LISTED) {
-            let mut pages = vec![0; 1000];
-            let number = read_sheet(&sheet, &mut pages).map_or_else(|refused| refused.number, |_| 0);
-            refusals[number as usize] += 1;
-            let Ok(bid) = read_sheet(&sheet, &mut pages) else { continue };
+            let read = read_whole(&sheet, BLANK);
+            refusals[read.as_ref().map_or_else(|refused| refused.number as usize, |_| 0)] += 1;
+            let Ok((bid, pages)) = read else { continue };
             let (mut dir, mut answers) = (fresh_directory(bid.policy, bid.c), vec![0; 4000]);
-            if run(&mut dir, &pages[..bid.count as usize], &mut answers).1.evictions == 0 {
+            if run(&mut dir, &pages, &mut answers).1.evictions == 0 {
                 continue;
             }
             (0..bid.count as usize).for_each(|at| kinds[bid.policy as usize][answers[4 * at] as usize] += 1);

@@ -1,8 +1,10 @@
-// The command line: the programs probe, score and ledger over standard input and output,
-// and compare, which drives another side's three programs and compares.
+// The command line: the programs probe, score, ledger and copy over standard input and output,
+// and compare, which drives another side's four programs and compares.
 
 mod bids;
 mod compare;
+mod copy;
+mod copy_sheets;
 mod directory;
 mod drive;
 mod inputs;
@@ -26,6 +28,7 @@ fn main() -> ExitCode {
         Some("probe") => over_standard(probe::probe),
         Some("score") => over_standard(|sheet, output| output.write_all(&programs::score(sheet))),
         Some("ledger") => over_standard(|sheet, output| output.write_all(&programs::ledger(sheet))),
+        Some("copy") => over_standard(|sheet, output| output.write_all(&programs::copy(sheet))),
         Some("compare") => compare_with(&words[1..]),
         _ => usage(),
     }
@@ -47,7 +50,7 @@ fn compare_with(words: &[String]) -> ExitCode {
 }
 
 fn usage() -> ExitCode {
-    eprintln!("second probe|score|ledger, or second compare --seed N --size small|full -- COMMAND...");
+    eprintln!("second probe|score|ledger|copy, or second compare --seed N --size small|full -- COMMAND...");
     ExitCode::from(2)
 }
 

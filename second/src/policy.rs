@@ -6,6 +6,10 @@ pub const FIFO: u32 = 3;
 pub const CLOCK: u32 = 4;
 pub const LRU: u32 = 5;
 
+/// What a blank policy means on a sheet, and what it meant on those filed before request 2.
+pub const BLANK: u32 = CART;
+pub const BLANK_BEFORE: u32 = CAR;
+
 const NAMES: [(&str, u32); 5] = [("car", CAR), ("cart", CART), ("fifo", FIFO), ("clock", CLOCK), ("lru", LRU)];
 
 /// Whether the number is a policy's; if not, it is refused 1.

@@ -2,6 +2,7 @@
 // and its elements; and the probe itself, which answers calls until the end or the first it cannot read.
 
 use crate::directory::{check, fresh};
+use crate::policy::BLANK;
 use crate::request::request;
 use crate::result::{write_result, Outcome};
 use crate::run::run;
@@ -171,7 +172,7 @@ pub fn answer(call: Call) -> Vec<u32> {
             joined(&[number, t.requests, t.hits, t.misses, t.evictions, t.moves], &[&dir, &answers])
         }
         Call::Read { sheet, mut pages } => {
-            let numbers = match read_sheet(&sheet, &mut pages) {
+            let numbers = match read_sheet(&sheet, BLANK, &mut pages) {
                 Ok(bid) => [0, 0, bid.policy, bid.c, bid.cost, bid.count],
                 Err(refused) => [refused.number, refused.line, 0, 0, 0, 0],
             };
@@ -247,6 +248,13 @@ mod tests {
         assert_eq!(probed(&[6, 4, 97, 61, 98, 10, 1]), [0, 2, 1, 98]);
         assert_eq!(probed(&[6, 4, 97, 61, 98, 10, 2]), [8, 0, 0]);
         assert_eq!(probed(&[7, 1, 0, 0, 0, 0, 0, 0, 0, 0, 2, 5, 6]), [6, 0, 2, 5, 6]);
+    }
+
+    #[test]
+    fn a_blank_policy_is_read_as_cart() {
+        let sheet = b"policy=\npages=3\nmisscost=0,007\npage=9\n".to_vec();
+        let answer = answer(Call::Read { sheet, pages: vec![5; 1000] });
+        assert_eq!(answer[..9], [0, 0, 2, 3, 7, 1, 1000, 9, 5]);
     }
 
     #[test]

@@ -1,10 +1,12 @@
-// The two programs over a bid sheet: score gives the result sheet or the two lines of a refusal,
-// ledger the same and then one line for each request.
+// The three programs over a bid sheet: score gives the result sheet or the two lines of a refusal, ledger the same
+// and then one line for each request, copy the sheet's copy or the two lines.
 
+use crate::copy::copy_of;
 use crate::directory::{fresh, words_for};
+use crate::policy::BLANK;
 use crate::result::{write_result, Outcome, RESULT_BUFFER};
 use crate::run::{run, Tally};
-use crate::sheet::{read_sheet, Bid, PAGE_BUFFER};
+use crate::sheet::{read_whole, Bid, Refused};
 
 /// The sheet's pages served on a fresh directory.
 struct Scored {
@@ -30,10 +32,16 @@ pub fn ledger(sheet: &[u8]) -> Vec<u8> {
     }
 }
 
+/// The program copy: the sheet with `car` where its policy is blank, or `refused=N` and `line=N`.
+pub fn copy(sheet: &[u8]) -> Vec<u8> {
+    match copy_of(sheet) {
+        Ok(copy) => copy,
+        Err(refused) => refusal_lines(refused).into_bytes(),
+    }
+}
+
 fn serve_sheet(sheet: &[u8]) -> Result<Scored, String> {
-    let mut pages = vec![0; PAGE_BUFFER];
-    let bid = read_sheet(sheet, &mut pages).map_err(|refused| refusal_lines(refused.number, refused.line))?;
-    pages.truncate(bid.count as usize);
+    let (bid, pages) = read_whole(sheet, BLANK).map_err(refusal_lines)?;
     let mut dir = vec![0; words_for(bid.c)];
     let number = fresh(bid.policy, bid.c, &mut dir);
     let mut answers = vec![0; 4 * pages.len()];
@@ -42,8 +50,8 @@ fn serve_sheet(sheet: &[u8]) -> Result<Scored, String> {
     Ok(Scored { bid, pages, answers, tally })
 }
 
-fn refusal_lines(number: u32, line: u32) -> String {
-    format!("refused={number}\nline={line}\n")
+fn refusal_lines(refused: Refused) -> String {
+    format!("refused={}\nline={}\n", refused.number, refused.line)
 }
 
 fn result_sheet(scored: &Scored) -> Vec<u8> {
@@ -107,6 +115,25 @@ mod tests {
             let text = String::from_utf8(ledger(sheet.as_bytes())).unwrap();
             assert!(text.starts_with(&result) && text.contains(&format!("request=4 page=3 {fourth}\n")), "{text}");
         }
+    }
+
+    #[test]
+    fn a_blank_policy_is_scored_as_cart_and_its_copy_as_car() {
+        let blank = crate::bids::worked("");
+        assert!(score(&blank).starts_with(b"policy=cart\npages=2\nrequests=8\n"));
+        assert_eq!(ledger(&blank), ledger(&crate::bids::worked("cart")));
+        assert_eq!(copy(&blank), WORKED);
+        assert_eq!(copy(WORKED), WORKED);
+        assert_eq!(String::from_utf8(score(&copy(&blank))).unwrap(), RESULT);
+    }
+
+    #[test]
+    fn refused_copies() {
+        assert_eq!(copy(b"policy="), b"refused=8\nline=1\n");
+        assert_eq!(copy(b"policy=\r\npages=0\n"), b"refused=1\nline=1\n");
+        assert_eq!(copy(b"policy=\npages=2\nmisscost=1,25\n"), b"refused=9\nline=3\n");
+        assert_eq!(copy(&crate::bids::of_length("", 15_998)), b"refused=7\nline=0\n");
+        assert_eq!(copy(&[0; 20000]), b"refused=7\nline=0\n");
     }
 
     #[test]

@@ -14,6 +14,7 @@ pub struct Refused {
     pub line: u32,
 }
 
+/// What a sheet means beside its pages.
 #[derive(Clone, Copy, Debug, Default, PartialEq, Eq)]
 pub struct Bid {
     pub policy: u32,
@@ -22,29 +23,37 @@ pub struct Bid {
     pub count: u32,
 }
 
+/// The sheet read with a page buffer of its own: what it means and its pages, where a blank policy means `blank`.
+pub fn read_whole(sheet: &[u8], blank: u32) -> Result<(Bid, Vec<u32>), Refused> {
+    let mut pages = vec![0; PAGE_BUFFER];
+    let bid = read_sheet(sheet, blank, &mut pages)?;
+    pages.truncate(bid.count as usize);
+    Ok((bid, pages))
+}
+
 /// Sheet reader: 6, 7, then the lines from the top. Pages are written only if all is good.
-pub fn read_sheet(sheet: &[u8], pages: &mut [u32]) -> Result<Bid, Refused> {
+pub fn read_sheet(sheet: &[u8], blank: u32, pages: &mut [u32]) -> Result<Bid, Refused> {
     if pages.len() < PAGE_BUFFER {
         return Err(Refused { number: 6, line: 0 });
     }
     if sheet.len() > LONGEST_SHEET {
         return Err(Refused { number: 7, line: 0 });
     }
-    let (mut bid, listed) = read_lines(sheet, 0, 1)?;
+    let (mut bid, listed) = read_lines(sheet, blank, 0, 1)?;
     bid.count = listed.len() as u32;
     pages[..listed.len()].copy_from_slice(&listed);
     Ok(bid)
 }
 
 /// Reads from a place in the sheet, which is the start of the line with this number.
-fn read_lines(sheet: &[u8], mut place: usize, mut line: u32) -> Result<(Bid, Vec<u32>), Refused> {
+fn read_lines(sheet: &[u8], blank: u32, mut place: usize, mut line: u32) -> Result<(Bid, Vec<u32>), Refused> {
     let mut bid = Bid::default();
     let mut listed = Vec::new();
     while line <= 3 || place < sheet.len() {
         let Some(text) = closed_line(sheet, place) else {
             return Err(Refused { number: 8, line });
         };
-        judge(text, line, &mut bid, &mut listed).map_err(|number| Refused { number, line })?;
+        judge(text, line, blank, &mut bid, &mut listed).map_err(|number| Refused { number, line })?;
         place += text.len() + 1;
         line += 1;
     }
@@ -59,9 +68,9 @@ fn closed_line(sheet: &[u8], place: usize) -> Option<&[u8]> {
 }
 
 /// One line: 8, then 5, then its value.
-fn judge(text: &[u8], line: u32, bid: &mut Bid, listed: &mut Vec<u32>) -> Result<(), u32> {
+fn judge(text: &[u8], line: u32, blank: u32, bid: &mut Bid, listed: &mut Vec<u32>) -> Result<(), u32> {
     match line {
-        1 => bid.policy = policy_value(after_key(text, b"policy=")?)?,
+        1 => bid.policy = policy_value(after_key(text, b"policy=")?, blank)?,
         2 => bid.c = size_value(after_key(text, b"pages=")?)?,
         3 => bid.cost = cost_value(after_key(text, b"misscost=")?)?,
         _ => {
@@ -79,9 +88,9 @@ fn after_key<'a>(text: &'a [u8], key: &[u8]) -> Result<&'a [u8], u32> {
     text.strip_prefix(key).ok_or(8)
 }
 
-fn policy_value(value: &[u8]) -> Result<u32, u32> {
+fn policy_value(value: &[u8], blank: u32) -> Result<u32, u32> {
     match value {
-        b"" => Ok(policy::CAR),
+        b"" => Ok(blank),
         name => policy::number(name).ok_or(1),
     }
 }
@@ -145,10 +154,11 @@ pub fn look_up(sheet: &[u8], line: u32) -> Result<(usize, &[u8]), u32> {
 #[cfg(test)]
 mod tests {
     use super::*;
+    use crate::policy::BLANK;
 
     fn read(sheet: &[u8]) -> Result<Bid, Refused> {
         let mut pages = vec![7; 1001];
-        let answer = read_sheet(sheet, &mut pages);
+        let answer = read_sheet(sheet, BLANK, &mut pages);
         let count = answer.map_or(0, |bid| bid.count as usize);
         assert!(pages[count..].iter().all(|&page| page == 7));
         answer
@@ -169,7 +179,7 @@ mod tests {
     fn good_sheets() {
         let bid = Bid { policy: 1, c: 2, cost: 1250, count: 0 };
         assert_eq!(read(b"policy=car\npages=2\nmisscost=1,250\n"), Ok(bid));
-        assert_eq!(read(b"policy=\npages=2\nmisscost=1,250\npage=0\npage=4294967295\n"), Ok(Bid { count: 2, ..bid }));
+        assert_eq!(read(b"policy=car\npages=2\nmisscost=1,250\npage=0\npage=4294967295\n"), Ok(Bid { count: 2, ..bid }));
         assert_eq!(read(b"policy=cart\npages=1024\nmisscost=9999,999\n"), Ok(Bid { policy: 2, c: 1024, cost: 9_999_999, count: 0 }));
         assert_eq!(read(b"policy=car\npages=1\nmisscost=0,000\n"), Ok(Bid { policy: 1, c: 1, cost: 0, count: 0 }));
         for (policy, name) in (3..=5).zip(["fifo", "clock", "lru"]) {
@@ -177,8 +187,26 @@ mod tests {
             assert_eq!(read(sheet.as_bytes()), Ok(Bid { policy, ..bid }));
         }
         let mut pages = vec![7; 1000];
-        assert!(read_sheet(b"policy=\npages=2\nmisscost=1,250\npage=0\npage=4294967295\n", &mut pages).is_ok());
+        assert!(read_sheet(b"policy=\npages=2\nmisscost=1,250\npage=0\npage=4294967295\n", BLANK, &mut pages).is_ok());
         assert_eq!(pages[..3], [0, u32::MAX, 7]);
+    }
+
+    #[test]
+    fn a_blank_means_what_the_reading_says() {
+        let rest = "pages=2\nmisscost=1,250\npage=9\n";
+        let policy_of = |value: &str, blank| read_whole(format!("policy={value}\n{rest}").as_bytes(), blank).map(|(bid, _)| bid.policy);
+        assert_eq!(policy_of("", BLANK), Ok(policy::CART));
+        for blank in 1..=5 {
+            let meant = (Bid { policy: blank, c: 2, cost: 1250, count: 1 }, vec![9]);
+            assert_eq!(read_whole(format!("policy=\n{rest}").as_bytes(), blank), Ok(meant));
+            for (named, name) in (1..=5).zip(["car", "cart", "fifo", "clock", "lru"]) {
+                assert_eq!(policy_of(name, blank), Ok(named));
+            }
+            for value in ["\r", " ", "=", "\0", "CART"] {
+                assert_eq!(policy_of(value, blank), Err(Refused { number: 1, line: 1 }), "{value:?}");
+            }
+        }
+        assert_eq!((refused(b"policy="), refused(b"policy=\n"), refused(b"policy=\npages=0\n")), ((8, 1), (8, 2), (2, 2)));
     }
 
     #[test]
@@ -220,15 +248,15 @@ mod tests {
         assert_eq!(refused(&sheet), (8, 1004));
         assert_eq!(refused(&[b'\n'; 16001]), (7, 0));
         assert_eq!(refused(&[b'\n'; 16000]), (8, 1));
-        let short = read_sheet(&[b'\n'; 16001], &mut [0; 999]);
+        let short = read_sheet(&[b'\n'; 16001], BLANK, &mut [0; 999]);
         assert_eq!(short, Err(Refused { number: 6, line: 0 }));
     }
 
     #[test]
     fn sixteen_thousand_bytes() {
-        let sheet = crate::bids::of_length(16000);
+        let sheet = crate::bids::of_length("cart", 16000);
         assert_eq!((sheet.len(), read(&sheet).map(|bid| bid.count)), (16000, Ok(1000)));
-        let sheet = crate::bids::of_length(16001);
+        let sheet = crate::bids::of_length("cart", 16001);
         assert_eq!((sheet.len(), refused(&sheet)), (16001, (7, 0)));
         assert_eq!(look_up(&sheet, 1), Err(7));
     }

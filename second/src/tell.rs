@@ -26,7 +26,7 @@ pub fn difference(call: &Call, ours: &[u32], theirs: Option<&[u32]>, more: bool)
     text + &format!("  ours:   {}\n  theirs: {}", words(ours), words(theirs))
 }
 
-/// What score or ledger did on both sides.
+/// What score, ledger or copy did on both sides.
 pub fn texts(name: &str, sheet: &[u8], ours: &Did, theirs: &Did) -> String {
     format!(
         "  {name}, sheet of {} bytes: {}\n  {}\n  ours:   {}\n  theirs: {}{}",
@@ -37,6 +37,12 @@ pub fn texts(name: &str, sheet: &[u8], ours: &Did, theirs: &Did) -> String {
         bytes(&theirs.output),
         ends(&ours.end, &theirs.end)
     )
+}
+
+/// What copy did on both sides; `means_other` when theirs does not mean what the sheet meant.
+pub fn copies(sheet: &[u8], ours: &Did, theirs: &Did, means_other: bool) -> String {
+    let meaning = if means_other { "\n  theirs does not mean what the sheet meant" } else { "" };
+    texts("copy", sheet, ours, theirs) + meaning
 }
 
 /// What the probe did on both sides.
@@ -202,6 +208,8 @@ mod tests {
         assert!(text.starts_with("  score, sheet of 6 bytes: \"policy\"\n  the outputs of 7 bytes are equal\n"), "{text}");
         let told = "  end of ours:   standard error \"\", status 0\n  end of theirs: standard error \"late\\n\", status 1";
         assert!(text.ends_with(told), "{text}");
+        assert_eq!(copies(b"policy", &ours, &theirs, false), texts("copy", b"policy", &ours, &theirs));
+        assert!(copies(b"policy", &ours, &theirs, true).ends_with("status 1\n  theirs does not mean what the sheet meant"));
         theirs = Did { output: b"hits=3".to_vec(), end: End { error: vec![], status: Status::Signal(9) } };
         let text = streams(&[1, 2], &ours, &theirs);
         assert!(text.contains("first differing byte 5; ours has 7 bytes, theirs 6\n"), "{text}");

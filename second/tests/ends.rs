@@ -1,4 +1,4 @@
-// The built program's own ends: output, standard error and status of probe, score and ledger
+// The built program's own ends: output, standard error and status of probe, score, ledger and copy
 // as processes, on inputs that can be read whole and on those that cannot.
 
 use std::io::Write;
@@ -44,11 +44,21 @@ fn a_probe_that_breaks_off() {
 
 #[test]
 fn a_refused_sheet_is_an_answer() {
-    for program in ["score", "ledger"] {
+    for program in ["score", "ledger", "copy"] {
         assert_eq!(ran(program, b""), (b"refused=8\nline=1\n".to_vec(), 0, Some(0)));
         assert_eq!(ran(program, &[0; 40_000]), (b"refused=7\nline=0\n".to_vec(), 0, Some(0)));
-        let (output, line_feeds, status) = ran(program, b"policy=\npages=1\nmisscost=0,001\npage=5\n");
-        assert!(output.starts_with(b"policy=car\npages=1\nrequests=1\nhits=0\nmisses=1\n"));
+    }
+}
+
+#[test]
+fn a_blank_policy_is_cart_and_copied_as_car() {
+    let sheet = b"policy=\npages=1\nmisscost=0,001\npage=5\n";
+    for program in ["score", "ledger"] {
+        let (output, line_feeds, status) = ran(program, sheet);
+        assert!(output.starts_with(b"policy=cart\npages=1\nrequests=1\nhits=0\nmisses=1\n"));
         assert_eq!((line_feeds, status), (0, Some(0)));
     }
+    let copy = b"policy=car\npages=1\nmisscost=0,001\npage=5\n".to_vec();
+    assert_eq!(ran("copy", sheet), (copy.clone(), 0, Some(0)));
+    assert_eq!(ran("copy", &copy), (copy, 0, Some(0)));
 }
