@@ -1,21 +1,22 @@
 -- The copy by the answer of the sheet as it was filed: refused where that one is, then by its length.
-use mathlib.Core.Path.{_≡_, refl, ap, _∙_}
-use mathlib.Core.Bool.{true, false}
+use mathlib.Core.Path.{_≡_, refl, _∙_}
 use mathlib.Core.List.{List}
-use Prim.Native.Nat.{ℕ, _+_, _≤_, _<_}
+use Prim.Native.Nat.{ℕ, _≤_, _<_}
 use native.Mathlib.Nat.{zero-add}
 use native.Mathlib.Omega.{arith}
 use borrow.Author.Needs.{needs}
 use borrow.Author.Tests.{lt-ltb, le-ltb}
 use Rattle.terms.specs.Choice.{∣_∣}
 use Rattle.terms.specs.Policies.{car}
-use Rattle.sheets.specs.Copy.{blankPolicy, withCar, carWhereBlank, copy, notCopied, notTooLong, copyIf, copyOf}
+use Rattle.sheets.specs.Bid.{filedMeaning}
+use Rattle.sheets.specs.Copy.{copy, notCopied, copyOf}
 use Rattle.sheets.specs.Refusals.{copiedInto, onCopy}
+use Rattle.sheets.specs.Demands.{HasCopy}
 use Rattle.sheets.proofs.Bids.{bid-is-short}
-use Rattle.sheets.proofs.Copies.{three-bytes-more}
+use Rattle.sheets.proofs.Copies.{refused-not-copied, good-sheets-copied}
 use Rattle.bid.specs.declared.Bid.{Bid}
 use Rattle.bid.specs.Promises.{BidJudged}
-use Rattle.bid.proofs.Reader.{sheet-accepted, sheet-refused}
+use Rattle.bid.proofs.Reader.{Accepted, sheet-accepted, sheet-refused}
 use Rattle.result.specs.Put.{PutFits, Put}
 use Rattle.result.proofs.Putting.{put-over}
 use Rattle.copying.specs.declared.Copied.{Copied}
@@ -25,30 +26,18 @@ use Rattle.copying.specs.Promises.{refusedCopy, SheetCopied}
 
 module _ (s : List ℕ) {filed : Bid} (judged : BidJudged s car filed) where
   pub not-copied : (filed .number ≡ 0 → ⊥) → copyOf s ≡ notCopied (filed .number) (filed .line)
-  unfolding copyOf
-  not-copied some = ap (λ m. copyIf m (carWhereBlank s)) (sheet-refused car refl s judged some)
+  not-copied some = refused-not-copied s _ _ (sheet-refused car refl s judged some)
 
   module _ (none : filed .number ≡ 0) where
-    by-length : copyOf s ≡ notTooLong (carWhereBlank s)
-    unfolding copyOf
-    by-length = ap (λ m. copyIf m (carWhereBlank s)) (sheet-accepted car refl s judged none .means-bid)
+    accepted : Accepted (filedMeaning s)
+    accepted = sheet-accepted car refl s judged none
+
+    pub has-copy : HasCopy s
+    has-copy = good-sheets-copied s (accepted .its-bid) (accepted .means-bid)
 
     -- A sheet that is accepted is not too long itself.
-    short : ∣ s ∣ ≤ 16000
-    short = bid-is-short _ s _ (sheet-accepted car refl s judged none .means-bid)
-
     pub room-for-sheet : {out : List ℕ} → 16000 ≤ ∣ out ∣ → PutFits out 0 s
-    room-for-sheet room = record { fits = omega (arith, short) }
-
-    pub named-copied : blankPolicy s ≡ false → copyOf s ≡ copy s
-    named-copied named = by-length ∙ rw (named, le-ltb 16000 ∣ s ∣ short)
-
-    module _ (blank : blankPolicy s ≡ true) where
-      pub copy-too-long : 16000 < ∣ s ∣ + 3 → copyOf s ≡ notCopied 7 0
-      copy-too-long long = by-length ∙ rw (blank, three-bytes-more s blank, lt-ltb 16000 (∣ s ∣ + 3) long)
-
-      pub blank-copied : ∣ s ∣ + 3 ≤ 16000 → copyOf s ≡ copy (withCar s)
-      blank-copied fits = by-length ∙ rw (blank, three-bytes-more s blank, le-ltb 16000 (∣ s ∣ + 3) fits)
+    room-for-sheet room = record { fits = omega (arith, bid-is-short _ s _ (accepted .means-bid)) }
 
 -- THE COPY'S ANSWER
 

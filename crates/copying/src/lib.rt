@@ -13,7 +13,8 @@ const BLANK: [u8; 8] = *b"policy=\n";
 
 const BEHIND_KEY: usize = 7;
 
-const NAME: usize = 3;
+// What the name adds to the sheet.
+const NAME_BYTES: usize = 3;
 
 // The number and line of a refusal, zeros where there is none; and how many bytes of out the copy has.
 pub struct Copied {
@@ -61,7 +62,7 @@ pub fn copy(sheet: &[u8], out: &mut [u8]) -> Copied
             count: result::put(out, 0, sheet),
         };
     }
-    if limits::MOST_SHEET_BYTES < sheet.len() + NAME {
+    if limits::MOST_SHEET_BYTES < sheet.len() + NAME_BYTES {
         return refused(refusals::SHEET_TOO_LONG, 0);
     }
     Copied {

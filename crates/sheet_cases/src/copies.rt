@@ -1,5 +1,5 @@
-// Bid sheets through the copy, a file of data/ each: the answer, how the copy begins, and whether its other bytes are the
-// sheet's and later bytes stayed. Then what the program prints of some.
+// Bid sheets through the copy, a file of data/ each: the answer, how the copy begins, and whether its other bytes are
+// the sheet's and later bytes stayed. Then what the program prints of some.
 use crate::show;
 
 // What the lent bytes hold before a call; no sheet has this byte.

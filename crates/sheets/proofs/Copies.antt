@@ -3,10 +3,10 @@
 use mathlib.Core.Path.{_≡_, refl, sym, ap, ap₂, subst, _∙_}
 use mathlib.Core.Bool.{Bool, true, false, true≢false}
 use mathlib.Core.List.{List, [], _∷_, _++_}
-use Prim.Native.Nat.{ℕ, _+_, _≤_}
+use Prim.Native.Nat.{ℕ, _+_, _≤_, _<_}
 use native.Mathlib.Omega.{arith}
-use lib.Dec.{eqb, ltb}
-use borrow.Author.Tests.{ltb-false, le-ltb}
+use lib.Dec.{eqb}
+use borrow.Author.Tests.{ltb-true, ltb-false, le-ltb}
 use borrow.Table.Steps.{cases}
 use Rattle.terms.specs.Choice.{if_then_else_, ∣_∣, same}
 use Rattle.terms.specs.Limits.{mostSheetBytes}
@@ -19,10 +19,10 @@ use Rattle.sheets.specs.Lines.{Lines, end, unclosed, line, lineFeed, beh
 use Rattle.sheets.specs.Lines.{Reading, good, bad, before, under}
 use Rattle.sheets.specs.Bid.{Meaning, bid, refused, namedIn, policyMeant, policyLine, Pages, listed, refusedAt}
 use Rattle.sheets.specs.Bid.{withPages, afterLine, inOrder, meaningWhere, meaning, filedMeaning}
-use Rattle.sheets.specs.Copy.{blankPolicy, withCar, carWhereBlank, copy, notCopied, copyIf, copyOf}
+use Rattle.sheets.specs.Copy.{blankPolicy, withCar, carWhereBlank, copy, notCopied, tooLong, copyIf, copyOf}
 use Rattle.sheets.specs.Demands.{NamedMeanTheSame, underPolicy, BlanksTurn, RefusalsStay, CopiesMeanTheSame}
-use Rattle.sheets.specs.Demands.{NamedUnchanged, BlanksWritten, CopiedOnce, NotCopiedHasNumber}
-use Rattle.sheets.proofs.Bids.{refusal-has-number}
+use Rattle.sheets.specs.Demands.{NamedUnchanged, GoodSheetsCopied, BlanksWritten, CopiedOnce, NotCopiedHasNumber}
+use Rattle.sheets.proofs.Bids.{refusal-has-number, bid-is-short}
 
 -- A POLICY THAT IS NOT BLANK
 
@@ -109,12 +109,16 @@ refusal-stays new old s number at is =
     cases (blankPolicy s) (λ blank. blank-turned new old s blank ∙ ap (underPolicy new) is) (λ named.
     named-stays (means new) (means old) s named ∙ is)
 
-pub refusals-stay : RefusalsStay
+pub refused-not-copied : (s : List ℕ) (number at : ℕ) → filedMeaning s ≡ refused number at
+    → copyOf s ≡ notCopied number at
 unfolding copyOf
+refused-not-copied s number at is = rw is
+
+pub refusals-stay : RefusalsStay
 refusals-stay s number at = record {
   as-filed = refusal-stays car cart s number at;
   as-now = refusal-stays cart car s number at;
-  as-copied = λ is. ap (λ m. copyIf m (carWhereBlank s)) (refusal-stays car cart s number at is);
+  as-copied = λ is. refused-not-copied s number at (refusal-stays car cart s number at is);
 }
 
 -- THE COPY
@@ -122,7 +126,7 @@ refusals-stay s number at = record {
 -- What is copied is written whole, and is not too long.
 record Copied (s t : List ℕ) : Type 0 where
   pub is-written : t ≡ carWhereBlank s
-  pub is-short : ltb mostSheetBytes ∣ carWhereBlank s ∣ ≡ false
+  pub is-short : ∣ carWhereBlank s ∣ ≤ mostSheetBytes
 
 -- A refusal is no copy.
 never : {A : Type 0} {number at : ℕ} {t : List ℕ} → notCopied number at ≡ copy t → A
@@ -134,8 +138,8 @@ copied-so s t = go (filedMeaning s)
   where
     go : (m : Meaning) → copyIf m (carWhereBlank s) ≡ copy t → Copied s t
     go (bid b) =
-        by-test (λ c. c ≡ copy t → Copied s t) (ltb mostSheetBytes ∣ carWhereBlank s ∣) (λ long. never) (λ short e.
-        record { is-written = cc; is-short = short })
+        by-test (λ c. c ≡ copy t → Copied s t) (tooLong (carWhereBlank s)) (λ long. never) (λ short e.
+        record { is-written = cc; is-short = omega (arith, ltb-false) })
     go (refused number at) = never
 
 named-kept : (s : List ℕ) → blankPolicy s ≡ false → carWhereBlank s ≡ s
@@ -144,8 +148,23 @@ named-kept s isnt = rw isnt
 pub named-unchanged : NamedUnchanged
 named-unchanged s t isnt e = copied-so s t e .is-written ∙ named-kept s isnt
 
-pub three-bytes-more : (s : List ℕ) → blankPolicy s ≡ true → ∣ withCar s ∣ ≡ ∣ s ∣ + 3
+three-bytes-more : (s : List ℕ) → blankPolicy s ≡ true → ∣ withCar s ∣ ≡ ∣ s ∣ + 3
 three-bytes-more = of-blank (λ s. ∣ withCar s ∣ ≡ ∣ s ∣ + 3) (λ rest. omega arith)
+
+-- 16,000 bytes are not too long, one more is.
+fits : (t : List ℕ) → ∣ t ∣ ≤ 16000 → tooLong t ≡ false
+fits t short = cases (tooLong t) (λ long. absurd (omega (arith, ltb-true))) (λ isnt. isnt)
+
+too-long : (t : List ℕ) → 16000 < ∣ t ∣ → tooLong t ≡ true
+too-long t long = cases (tooLong t) (λ is. is) (λ short. absurd (omega (arith, ltb-false)))
+
+pub good-sheets-copied : GoodSheetsCopied
+unfolding copyOf
+good-sheets-copied s b meant = record {
+  named-copied = λ isnt. rw (meant, isnt, fits s (bid-is-short _ s b meant));
+  blank-copied = λ is short. rw (meant, is, fits (withCar s) (omega (arith, three-bytes-more s is)));
+  blank-too-long = λ is long. rw (meant, is, too-long (withCar s) (omega (arith, three-bytes-more s is)));
+}
 
 pub blank-written : BlanksWritten
 blank-written s t is e =
@@ -164,8 +183,9 @@ copy-means-the-same s t e =
         → meaning t ≡ filedMeaning (bytes "policy=\n" ++ rest)
     now-car rest e =
         let c = copied-so (bytes "policy=\n" ++ rest) t e in
-        let short = le-ltb mostSheetBytes ∣ bytes "policy=\n" ++ rest ∣ (omega (arith, ltb-false)) in
-        rw (c .is-written, c .is-short, short)
+        let copy-short = le-ltb mostSheetBytes _ (c .is-short) in
+        let sheet-short = le-ltb mostSheetBytes ∣ bytes "policy=\n" ++ rest ∣ (omega (arith, c .is-short)) in
+        rw (c .is-written, copy-short, sheet-short)
 
 -- The policy of what is written is not blank.
 now-named : (s : List ℕ) → blankPolicy (carWhereBlank s) ≡ false
@@ -189,7 +209,7 @@ not-copied-has-number s number at = go (filedMeaning s) refl
   where
     go : (m : Meaning) → filedMeaning s ≡ m → copyIf m (carWhereBlank s) ≡ notCopied number at → 1 ≤ number
     go (bid b) is =
-        by-test (λ c. c ≡ notCopied number at → 1 ≤ number) (ltb mostSheetBytes ∣ carWhereBlank s ∣) (λ long e.
+        by-test (λ c. c ≡ notCopied number at → 1 ≤ number) (tooLong (carWhereBlank s)) (λ long e.
         let same : 7 ≡ number = cc in omega arith) (λ short e. never (sym e))
     go (refused n l) is = λ e.
         let same : n ≡ number = cc in omega (arith, refusal-has-number car refl s n l is)

@@ -32,8 +32,11 @@ pub data Copy : Type 0 where
   notCopied : ℕ → ℕ → Copy
 
 -- "A copy over 16,000 bytes is not written": "then 7, line 0, if the copy would be too long".
+abbrev pub tooLong : List ℕ → Bool
+tooLong s = ltb mostSheetBytes ∣ s ∣
+
 abbrev pub notTooLong : List ℕ → Copy
-notTooLong s = if ltb mostSheetBytes ∣ s ∣ then notCopied sheetTooLong 0 else copy s
+notTooLong s = if tooLong s then notCopied sheetTooLong 0 else copy s
 
 -- "the copying program refuses as the sheet reader does"
 abbrev pub copyIf : Meaning → List ℕ → Copy

@@ -93,6 +93,15 @@ pub record RefusedAlike (s : List ℕ) (number line : ℕ) : Type 0 where
 abbrev pub RefusalsStay : Type 0
 RefusalsStay = (s : List ℕ) (number line : ℕ) → RefusedAlike s number line
 
+-- "then 7, line 0, if the copy would be too long": every other sheet that was good has its copy. [Copies]
+pub record HasCopy (s : List ℕ) : Type 0 where
+  pub named-copied : blankPolicy s ≡ false → copyOf s ≡ copy s
+  pub blank-copied : blankPolicy s ≡ true → ∣ s ∣ ≤ 15997 → copyOf s ≡ copy (withCar s)
+  pub blank-too-long : blankPolicy s ≡ true → 15998 ≤ ∣ s ∣ → copyOf s ≡ notCopied 7 0
+
+abbrev pub GoodSheetsCopied : Type 0
+GoodSheetsCopied = (s : List ℕ) (b : Bid) → filedMeaning s ≡ bid b → HasCopy s
+
 -- "the copy now means what the sheet meant before this request" [Copies]
 abbrev pub CopiesMeanTheSame : Type 0
 CopiesMeanTheSame = (s t : List ℕ) → copyOf s ≡ copy t → meaning t ≡ filedMeaning s

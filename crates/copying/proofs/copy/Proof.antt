@@ -7,8 +7,9 @@ use native.Mathlib.Omega.{arith}
 use borrow.Author.Needs.{needs}
 use Rattle.terms.proofs.Tests.{test-holds, test-fails}
 use Rattle.sheets.specs.Copy.{blankPolicy}
+use Rattle.sheets.specs.Demands.{HasCopy}
 use Rattle.copying.proofs.Naming.{room-for-car}
-use Rattle.copying.proofs.Copying.{not-copied, room-for-sheet, named-copied, copy-too-long, blank-copied}
+use Rattle.copying.proofs.Copying.{not-copied, has-copy, room-for-sheet}
 use Rattle.copying.proofs.Copying.{short-buffer, answers-refusal, answers-copy}
 use Rattle.copying.proofs.copy.Statement.{statement}
 use Rattle.copying.proofs.copy.Tie as tie
@@ -26,6 +27,9 @@ named c = test-fails (c .before .starts-with .ensures) (c .if3 .taken)
 blank : (c : tie.Else3) → blankPolicy (sheet (c .before)) ≡ true
 blank c = test-holds (c .before .starts-with .ensures) (c .if3 .left)
 
+its-copy : (c : tie.After-starts-with) → HasCopy (sheet c)
+its-copy c = has-copy _ (after-judge c .judge .ensures) (omega arith)
+
 returns-2 : tie.Need-returns-2
 returns-2 c =
     answers-refusal _ _ (omega arith) (not-copied _ (c .before .before .before .judge .ensures) (omega arith))
@@ -37,13 +41,12 @@ put-requires c κs = room-for-sheet _ (after-judge (c .before .before) .judge .e
 returns-3 : tie.Need-returns-3
 returns-3 c =
     let n = c .before .before .before .before in
-    let copied = named-copied _ (after-judge (n .before) .judge .ensures) (omega arith) (named n) in
-    answers-copy _ _ (omega arith) copied (c .before .before .put .ensures)
+    answers-copy _ _ (omega arith) (its-copy (n .before) .named-copied (named n)) (c .before .before .put .ensures)
 
 returns-4 : tie.Need-returns-4
 returns-4 c =
     let b = c .before .before in
-    let too-long = copy-too-long _ (after-judge (b .before) .judge .ensures) (omega arith) (blank b) (omega arith) in
+    let too-long = its-copy (b .before) .blank-too-long (blank b) (omega arith) in
     answers-refusal _ _ (omega arith) too-long (c .refused3 .ensures)
 
 put-with-car-requires : tie.Need-put-with-car-requires
@@ -52,7 +55,7 @@ put-with-car-requires c κs = room-for-car (blank (c .before .before)) (omega ar
 returns-5 : tie.Need-returns-5
 returns-5 c =
     let b = c .before .before .before .before .before in
-    let copied = blank-copied _ (after-judge (b .before) .judge .ensures) (omega arith) (blank b) (omega arith) in
+    let copied = its-copy (b .before) .blank-copied (blank b) (omega arith) in
     answers-copy _ _ (omega arith) copied (c .before .before .put-with-car .ensures)
 
 pub copy-spec : {M : Type 1} → statement M
