@@ -5,13 +5,12 @@ use mathlib.Core.List.{List}
 use Prim.Native.Nat.{ℕ, _+_, _-_, _≤_, _<_}
 use native.Mathlib.Omega.{arith}
 use lib.ListN.{take, drop, length-drop, drop-of-length-le}
-use lib.Seq.{take-all, drop-drop}
+use lib.Seq.{drop-drop}
 use lib.Dec.{ltb}
 use borrow.Author.Tests.{lt-ltb, le-ltb, ltb-true, ltb-false}
 use Rattle.terms.specs.Choice.{∣_∣}
 use Rattle.terms.proofs.Choice.{by-test}
-use Rattle.bytes.specs.Bytes.{slice, indexOf}
-use Rattle.text.proofs.Text.{drop-take}
+use Rattle.bytes.specs.Bytes.{indexOf}
 use Rattle.sheets.specs.Lines.{end, unclosed, line, lineFeed, lines}
 use Rattle.sheets.proofs.Places.{place-at-most}
 use Rattle.sheets.proofs.Lines.{lines-closed, lines-unclosed}
@@ -29,14 +28,6 @@ pub record ClosedAt (s : List ℕ) (at stop : ℕ) : Type 0 where
 pub data MissingAt (s : List ℕ) (at : ℕ) : Type 0 where
   ended : ∣ s ∣ ≤ at → lines (drop at s) ≡ end → MissingAt s at
   not-closed : at < ∣ s ∣ → lines (drop at s) ≡ unclosed → MissingAt s at
-
--- The bytes that the kit's `find` looks through: the part from `at` to `stop`, and all from `at` on.
-pub part-is : (at stop : ℕ) (s : List ℕ) → slice at stop s ≡ take (stop - at) (drop at s)
-unfolding slice
-part-is at stop s = drop-take at stop s
-
-pub bytes-from : (s : List ℕ) (at : ℕ) → slice at ∣ s ∣ s ≡ drop at s
-bytes-from s at = part-is at ∣ s ∣ s ∙ take-all (∣ s ∣ - at) (drop at s) (omega (arith, length-drop at s))
 
 module _ (s : List ℕ) (at : ℕ) where
   -- How far the first line feed is from `at`.

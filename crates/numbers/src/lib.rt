@@ -4,32 +4,14 @@ ghost use mathlib.Core.Path.{_≡_};
 ghost use mathlib.Core.Bool.{true};
 ghost use Prim.Native.Nat.{_+_, _*_, _≤_};
 ghost use lib.ListN.{length};
-ghost use Rattle.sheets.specs.Number.{isDigit, allDigits, digitsForm};
-ghost use Rattle.sheets.specs.Number.{value as Number·value, whole as Number·whole, missCost};
+ghost use Rattle.text.specs.Digits.{allDigits, value as Digits·value};
+ghost use Rattle.sheets.specs.Number.{digitsForm, whole as Number·whole, missCost};
 ghost use Rattle.numbers.specs.Meant.{meant};
+use text::digits;
 
 pub enum Number {
     Means(u32),
     NotInForm,
-}
-
-fn is_digit(byte: u8) -> bool
-    ensures { λ r. ⌜ r ≡ isDigit byte ⌝ }
-{
-    b'0' <= byte && byte <= b'9'
-}
-
-fn all_digits(text: &[u8]) -> bool
-    ensures { λ r. ⌜ r ≡ allDigits (now (text .entry)) ⌝ }
-{
-    let mut i = 0;
-    while i < text.len() {
-        if !is_digit(text[i]) {
-            return false;
-        }
-        i += 1;
-    }
-    true
 }
 
 // At least one and at most so many digits, no leading zero except 0 itself.
@@ -37,7 +19,7 @@ fn in_form(text: &[u8], most: usize) -> bool
     ensures { λ r. ⌜ r ≡ digitsForm most (now (text .entry)) ⌝ }
 {
     let n = text.len();
-    if n < 1 || most < n || !all_digits(text) {
+    if n < 1 || most < n || !digits::all_digits(text) {
         return false;
     }
     n == 1 || text[0] != b'0'
@@ -47,15 +29,9 @@ fn in_form(text: &[u8], most: usize) -> bool
 fn value(text: &[u8]) -> u64
     requires { ⌜ allDigits (now text) ≡ true ⌝ }
     requires { ⌜ length (now text) ≤ 10 ⌝ }
-    ensures { λ r. ⌜ r ≡ Number·value (now (text .entry)) ⌝ }
+    ensures { λ r. ⌜ r ≡ Digits·value (now (text .entry)) ⌝ }
 {
-    let mut n = 0;
-    let mut i = 0;
-    while i < text.len() {
-        n = 10 * n + (text[i] - b'0') as u64;
-        i += 1;
-    }
-    n
+    digits::value_at_most(text, 9999999999)
 }
 
 pub fn whole(text: &[u8]) -> Number
@@ -75,7 +51,7 @@ pub fn whole(text: &[u8]) -> Number
 fn thousandths(before: &[u8], after: &[u8]) -> u32
     requires { ⌜ (allDigits (now before) ≡ true) × (length (now before) ≤ 4) ⌝ }
     requires { ⌜ (allDigits (now after) ≡ true) × (length (now after) ≤ 3) ⌝ }
-    ensures { λ r. ⌜ r ≡ 1000 * Number·value (now (before .entry)) + Number·value (now (after .entry)) ⌝ }
+    ensures { λ r. ⌜ r ≡ 1000 * Digits·value (now (before .entry)) + Digits·value (now (after .entry)) ⌝ }
 {
     (1000 * value(before) + value(after)) as u32
 }
@@ -89,7 +65,7 @@ pub fn miss_cost(text: &[u8]) -> Number
     }
     let before = &text[..n];
     let after = &text[n + 1..];
-    if !in_form(before, 4) || !all_digits(after) {
+    if !in_form(before, 4) || !digits::all_digits(after) {
         return Number::NotInForm;
     }
     Number::Means(thousandths(before, after))

@@ -20,7 +20,7 @@ use Rattle.sheets.specs.Bid.{Bid, Meaning, bid, refused, PolicyValue, na
 use Rattle.sheets.specs.Bid.{policyLine, sizeLine, costLine, pageLine, Pages, listed, refusedAt, onto, pagesFrom}
 use Rattle.sheets.specs.Bid.{withPages, afterLine, inOrder, meaningWhere}
 use Rattle.sheets.specs.Demands.{InRange, BidsInRange, RefusalsHaveNumbers}
-use Rattle.sheets.proofs.Digits.{is-cost, cost-below}
+use Rattle.sheets.proofs.Forms.{is-cost, cost-below}
 
 -- WHAT IS READ HAS A PROPERTY, AND A REFUSAL A NUMBER
 

@@ -13,11 +13,12 @@ use Rattle.terms.specs.Choice.{if_then_else_, ∣_∣}
 use Rattle.terms.proofs.Choice.{by-test}
 use Rattle.terms.proofs.Tests.{reads}
 use Rattle.bytes.specs.Bytes.{indexAfter, indexOf}
-use Rattle.sheets.specs.Number.{means, zeroDigit, comma, isDigit, allDigits, value, valueAfter}
+use Rattle.text.specs.Digits.{zeroDigit, isDigit, allDigits, value, valueAfter}
+use Rattle.sheets.specs.Number.{means, comma}
 use Rattle.sheets.specs.Number.{noLeadingZero, digitsForm, beforeComma, afterComma}
 use Rattle.sheets.specs.Result.{lastDigit, inDigits, decimal, threeDigits, milliseconds}
 use Rattle.sheets.specs.Demands.{WholeReadBack, WaitsReadBack, CostReadBack}
-use Rattle.sheets.proofs.Digits.{zero-decides, whole-is, cost-is}
+use Rattle.sheets.proofs.Forms.{zero-decides, whole-is, cost-is}
 
 -- DIGIT BY DIGIT
 

@@ -6,7 +6,8 @@ use mathlib.Core.List.{List}
 use Prim.Native.Nat.{ℕ, _+_, _^_, _/_, _%_, _≤_, _<_}
 use Rattle.terms.specs.Choice.{∣_∣, allAtMost}
 use Rattle.terms.specs.Policies.{car, cart, knownPolicy}
-use Rattle.sheets.specs.Number.{means, allDigits, value, digitsForm, whole, beforeComma, afterComma, missCost}
+use Rattle.text.specs.Digits.{allDigits, value}
+use Rattle.sheets.specs.Number.{means, digitsForm, whole, beforeComma, afterComma, missCost}
 use Rattle.sheets.specs.Bid.{Bid, Meaning, bid, refused, meaningWhere, meaning, filedMeaning}
 use Rattle.sheets.specs.Result.{Outcome, decimal, milliseconds, resultSheet}
 use Rattle.sheets.specs.Copy.{blankPolicy, withCar, copy, notCopied, copyOf}

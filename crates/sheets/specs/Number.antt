@@ -1,40 +1,23 @@
--- The form of a number, once: whole numbers, and the miss cost with its comma.
--- Whatever reads a number on a sheet cites `digitsForm` and `value`.
+-- The form of a number on a sheet, once: whole numbers, and the miss cost with its comma.
+-- Whatever reads a number on a sheet cites `digitsForm`; what a digit is, and its worth, is in `Digits` of the crate text.
 use mathlib.Core.Bool.{Bool, true, false, not}
 use mathlib.Core.List.{List, [], _∷_}
-use Prim.Native.Nat.{ℕ, _+_, _-_, _*_}
+use Prim.Native.Nat.{ℕ, _+_, _*_}
 use lib.ListN.{getD, take, drop}
 use lib.Dec.{leb, eqb}
 use Rattle.terms.specs.Choice.{if_then_else_, ∣_∣, every}
 use Rattle.terms.specs.Refusals.{notInForm}
 use Rattle.bytes.specs.Bytes.{indexOf}
+use Rattle.text.specs.Digits.{zeroDigit, allDigits, value}
 
 -- What the value of a line comes to: a number, or the number of a refusal.
 pub data Value : Type 0 where
   means : ℕ → Value
   wrong : ℕ → Value
 
--- The bytes "0" and ","
-abbrev pub zeroDigit : ℕ
-zeroDigit = 48
-
+-- The byte ","
 abbrev pub comma : ℕ
 comma = 44
-
-abbrev pub isDigit : ℕ → Bool
-isDigit b = if leb zeroDigit b then leb b (zeroDigit + 9) else false
-
-abbrev pub allDigits : List ℕ → Bool
-allDigits [] = true
-allDigits (b ∷ s) = if isDigit b then allDigits s else false
-
--- What digits are worth behind a number n that was read before them.
-abbrev pub valueAfter : ℕ → List ℕ → ℕ
-valueAfter n [] = n
-valueAfter n (b ∷ s) = valueAfter (10 * n + (b - zeroDigit)) s
-
-abbrev pub value : List ℕ → ℕ
-value s = valueAfter 0 s
 
 -- "no leading zero except 0 itself"
 abbrev pub noLeadingZero : List ℕ → Bool

@@ -6,7 +6,8 @@ use lib.Dec.{ltb}
 use Rattle.terms.specs.Choice.{if_then_else_}
 use Rattle.terms.specs.Policies.{policyName}
 use Rattle.text.specs.Text.{bytes}
-use Rattle.sheets.specs.Number.{zeroDigit, comma}
+use Rattle.text.specs.Digits.{zeroDigit}
+use Rattle.sheets.specs.Number.{comma}
 use Rattle.sheets.specs.Lines.{lineFeed}
 
 -- The last digit of n, as a byte.

@@ -72,3 +72,10 @@ lengths-differ [] [] h = absurd (h refl)
 lengths-differ [] (y ∷ t) h = refl
 lengths-differ (x ∷ s) [] h = refl
 lengths-differ (x ∷ s) (y ∷ t) h = either (λ b. b ≡ false) (eqb x y) (lengths-differ s t (λ e. h (ap suc e))) refl
+
+-- Two texts that compare as the same are one.
+pub same-text : (s t : List ℕ) → same s t ≡ true → s ≡ t
+same-text [] [] is = refl
+same-text [] (y ∷ t) is = absurd (false≢true is)
+same-text (x ∷ s) [] is = absurd (false≢true is)
+same-text (x ∷ s) (y ∷ t) is = let both = simp reads at is in ap₂ _∷_ (both .0) (same-text s t (both .1))

@@ -1,2 +1,3 @@
--- Texts as bytes: quoted, in front of others, the same.
+-- Texts as bytes: quoted, in front of others, the same; and digits.
 pub mod Text
+pub mod Digits

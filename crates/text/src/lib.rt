@@ -1,8 +1,10 @@
-// Bytes compared: a key in front of them, two texts the same.
-// Every function takes any bytes.
+// Bytes compared: a key in front of them, two texts the same; and digits.
+// Every function here takes any bytes.
 ghost use mathlib.Core.Path.{_≡_};
 ghost use Rattle.terms.specs.Choice.{same};
 ghost use Rattle.text.specs.Text.{starts};
+
+pub mod digits;
 
 pub fn starts_with(bytes: &[u8], key: &[u8]) -> bool
     ensures { λ r. ⌜ r ≡ starts (now (key .entry)) (now (bytes .entry)) ⌝ }

@@ -8,7 +8,8 @@ use borrow.Author.Needs.{needs}
 use Rattle.bytes.specs.Bytes.{indexOf}
 use Rattle.sheets.specs.Lines.{lineFeed}
 use Rattle.lines.specs.declared.Line.the-variants.{Closed}
-use Rattle.lines.proofs.Cursor.{bytes-from, is-closed, is-missing}
+use Rattle.sheets.proofs.Places.{bytes-from}
+use Rattle.lines.proofs.Cursor.{is-closed, is-missing}
 use Rattle.lines.proofs.line_from.Statement.{statement}
 use Rattle.lines.proofs.line_from.Tie as tie
 

@@ -7,7 +7,7 @@ use lib.ListN.{take, drop}
 use borrow.Author.Needs.{needs}
 use Rattle.bytes.specs.Bytes.{indexOf}
 use Rattle.sheets.specs.LookUp.{equalsSign}
-use Rattle.lines.proofs.Cursor.{part-is}
+use Rattle.sheets.proofs.Places.{part-is}
 use Rattle.lines.proofs.Spans.{value-here, no-value, span-between, span-nowhere}
 use Rattle.lines.proofs.value_in.Statement.{statement}
 use Rattle.lines.proofs.value_in.Tie as tie

@@ -7,7 +7,7 @@ use borrow.Author.Needs.{needs}
 use borrow.Author.Tests.{ltb-true, ltb-false, eq-eqb, ne-eqb}
 use Rattle.terms.proofs.Tests.{test-holds, test-fails}
 use Rattle.sheets.specs.Number.{digitsForm, noLeadingZero}
-use Rattle.sheets.proofs.Digits.{not-in-form, zero-decides}
+use Rattle.sheets.proofs.Forms.{not-in-form, zero-decides}
 use Rattle.numbers.proofs.in_form.Statement.{statement}
 use Rattle.numbers.proofs.in_form.Tie as tie
 

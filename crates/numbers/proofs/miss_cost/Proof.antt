@@ -11,8 +11,9 @@ use lib.Seq.{length-take-le, take-length}
 use borrow.Author.Needs.{needs}
 use Rattle.bytes.specs.Bytes.{slice, indexOf}
 use Rattle.terms.proofs.Tests.{test-holds, test-fails}
-use Rattle.sheets.specs.Number.{means, comma, digitsForm, allDigits}
-use Rattle.sheets.proofs.Digits.{in-form, no-cost, three-after, behind, cost-in-parts, cost-from-parts}
+use Rattle.text.specs.Digits.{allDigits}
+use Rattle.sheets.specs.Number.{means, comma, digitsForm}
+use Rattle.sheets.proofs.Forms.{in-form, no-cost, three-after, behind, cost-in-parts, cost-from-parts}
 use Rattle.numbers.proofs.miss_cost.Statement.{statement}
 use Rattle.numbers.proofs.miss_cost.Tie as tie
 

@@ -2,7 +2,8 @@
 use Prim.Native.Nat.{_+_, _*_, _^_, _<_}
 use native.Mathlib.Omega.{arith}
 use borrow.Author.Needs.{needs}
-use Rattle.sheets.proofs.Digits.{value-below, thousandths-below}
+use Rattle.text.proofs.Worth.{value-below}
+use Rattle.sheets.proofs.Forms.{thousandths-below}
 use Rattle.numbers.proofs.thousandths.Statement.{statement}
 use Rattle.numbers.proofs.thousandths.Tie as tie
 

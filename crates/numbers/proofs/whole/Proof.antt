@@ -5,7 +5,7 @@ use native.Mathlib.Omega.{arith}
 use borrow.Author.Needs.{needs}
 use Rattle.terms.proofs.Tests.{test-holds, test-fails}
 use Rattle.sheets.specs.Number.{means, digitsForm}
-use Rattle.sheets.proofs.Digits.{in-form, whole-is, whole-not-in-form, whole-too-large}
+use Rattle.sheets.proofs.Forms.{in-form, whole-is, whole-not-in-form, whole-too-large}
 use Rattle.numbers.proofs.whole.Statement.{statement}
 use Rattle.numbers.proofs.whole.Tie as tie
 

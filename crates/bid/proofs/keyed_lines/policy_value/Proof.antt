@@ -1,24 +1,16 @@
 -- A text that is one of the names has that name's meaning, whatever it was compared with before; one that is none of
 -- them, and not blank, is unknown.
-use mathlib.Core.Path.{_≡_, refl, sym, ap, ap₂, _∙_}
-use mathlib.Core.Bool.{Bool, true, false, false≢true}
-use mathlib.Core.List.{List, [], _∷_}
+use mathlib.Core.Path.{_≡_, sym, ap, _∙_}
+use mathlib.Core.Bool.{Bool, true, false}
+use mathlib.Core.List.{List, []}
 use Prim.Native.Nat.{ℕ}
 use borrow.Author.Needs.{needs}
 use Rattle.terms.specs.Choice.{∣_∣, same}
-use Rattle.terms.proofs.Tests.{reads}
 use Rattle.text.specs.Text.{bytes}
 use Rattle.sheets.specs.Bid.{PolicyValue, blank, unknown, policyValue}
-use Rattle.text.proofs.Text.{same-starts, lengths-differ}
+use Rattle.text.proofs.Text.{same-starts, same-text, lengths-differ}
 use Rattle.bid.proofs.keyed_lines.policy_value.Statement.{statement}
 use Rattle.bid.proofs.keyed_lines.policy_value.Tie as tie
-
--- Two texts that compare as the same are one.
-same-text : (s t : List ℕ) → same s t ≡ true → s ≡ t
-same-text [] [] is = refl
-same-text [] (y ∷ t) is = absurd (false≢true is)
-same-text (x ∷ s) [] is = absurd (false≢true is)
-same-text (x ∷ s) (y ∷ t) is = let both = simp reads at is in ap₂ _∷_ (both .0) (same-text s t (both .1))
 
 -- A test comes to what the code was answered.
 answered : {test answer outcome : Bool} → answer ≡ test → answer ≡ outcome → test ≡ outcome

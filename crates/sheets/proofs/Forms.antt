@@ -1,11 +1,10 @@
--- Digits, read on from a place, and what they come to at most: what a reader of numbers wants.
+-- The forms of numbers on a sheet: digits in form, whole numbers, miss costs; what a reader of numbers wants.
 use mathlib.Core.Path.{_≡_, refl, sym, ap, _∙_}
 use mathlib.Core.Bool.{Bool, true, false}
 use mathlib.Core.List.{List, [], _∷_}
-use Prim.Native.Nat.{ℕ, suc, _+_, _-_, _*_, _^_, _≤_, _<_}
+use Prim.Native.Nat.{ℕ, _+_, _-_, _*_, _^_, _≤_, _<_}
 use native.Mathlib.Omega.{arith}
-use native.Mathlib.Nat.{pow-le-pow-right}
-use lib.ListN.{getD, take, drop, length-drop}
+use lib.ListN.{take, drop, length-drop}
 use lib.Seq.{take-all}
 use borrow.Author.Tests.{le-leb, lt-leb}
 use Rattle.terms.specs.Choice.{if_then_else_, ∣_∣}
@@ -13,46 +12,10 @@ use Rattle.terms.specs.Refusals.{notInForm}
 use Rattle.terms.proofs.Choice.{by-test, either}
 use Rattle.terms.proofs.Tests.{reads}
 use Rattle.bytes.specs.Bytes.{indexOf}
-use Rattle.sheets.specs.Number.{means, wrong, zeroDigit, comma, isDigit, allDigits, valueAfter, value}
+use Rattle.text.specs.Digits.{allDigits, value}
+use Rattle.sheets.specs.Number.{means, wrong, comma}
 use Rattle.sheets.specs.Number.{noLeadingZero, digitsForm, whole, beforeComma, afterComma, costForm, missCost}
-use Rattle.text.proofs.Text.{from-place}
-
--- A LOOP OVER DIGITS
-
-module _ (s : List ℕ) (i : ℕ) (inside : i < ∣ s ∣) where
-  pub digit-here : isDigit (getD s i 0) ≡ true → allDigits (drop i s) ≡ allDigits (drop (i + 1) s)
-  digit-here is = rw (from-place s i inside, is)
-
-  pub no-digit-here : isDigit (getD s i 0) ≡ false → allDigits (drop i s) ≡ false
-  no-digit-here isnt = rw (from-place s i inside, isnt)
-
-  -- What all digits from a place on say of the byte there and of the rest.
-  pub digit-and-rest : allDigits (drop i s) ≡ true
-      → (zeroDigit ≤ getD s i 0) × (getD s i 0 ≤ zeroDigit + 9) × (allDigits (drop (i + 1) s) ≡ true)
-  digit-and-rest all =
-      let said = simp reads at (rw (from-place s i inside) at all) in (omega arith, omega arith, said .1)
-
-  pub value-from : (n : ℕ) → valueAfter n (drop i s) ≡ valueAfter (10 * n + (getD s i 0 - zeroDigit)) (drop (i + 1) s)
-  value-from n = ap (valueAfter n) (from-place s i inside)
-
--- HOW MUCH DIGITS ARE WORTH
-
--- A number that was read before is never above what it comes to with the digits behind it.
-pub value-grows : (n : ℕ) (s : List ℕ) → n ≤ valueAfter n s
-value-grows n [] = omega arith
-value-grows n (b ∷ s) = let h = value-grows (10 * n + (b - zeroDigit)) s in omega arith
-
--- Behind a number of at most j digits.
-value-after-below : (j k n : ℕ) (s : List ℕ) → j + ∣ s ∣ ≤ k → n < 10 ^ j → allDigits s ≡ true → valueAfter n s < 10 ^ k
-value-after-below j k n [] room small all =
-    omega (arith, pow-le-pow-right {n = 10} (omega arith) {i = j} {j = k} (omega arith))
-value-after-below j k n (b ∷ s) room small all =
-    let said = simp reads at all in
-    value-after-below (suc j) k (10 * n + (b - zeroDigit)) s (omega arith) (omega arith) (said .1)
-
--- At most k digits are worth less than 10 ^ k.
-pub value-below : (k : ℕ) (s : List ℕ) → ∣ s ∣ ≤ k → allDigits s ≡ true → value s < 10 ^ k
-value-below k s room all = value-after-below 0 k 0 s (omega arith) (omega arith) all
+use Rattle.text.proofs.Worth.{value-below}
 
 -- Four digits in thousands and three behind them.
 pub thousandths-below : (before after : List ℕ) → (allDigits before ≡ true) × (∣ before ∣ ≤ 4)

@@ -1,7 +1,7 @@
 -- A byte is a digit when it is neither below "0" nor above "9".
 use borrow.Author.Tests.{le-leb, lt-leb}
-use Rattle.numbers.proofs.is_digit.Statement.{statement}
-use Rattle.numbers.proofs.is_digit.Tie as tie
+use Rattle.text.proofs.digits.is_digit.Statement.{statement}
+use Rattle.text.proofs.digits.is_digit.Tie as tie
 
 returns : tie.Need-returns
 returns c = rw (le-leb 48 (c .before .args .byte) (c .if1 .taken))

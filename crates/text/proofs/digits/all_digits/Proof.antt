@@ -5,10 +5,10 @@ use native.Mathlib.Omega.{arith}
 use lib.ListN.{length, drop, drop-of-length-le}
 use borrow.Author.Needs.{needs}
 use Rattle.terms.proofs.Tests.{test-holds, test-fails}
-use Rattle.sheets.specs.Number.{allDigits}
-use Rattle.sheets.proofs.Digits.{digit-here, no-digit-here}
-use Rattle.numbers.proofs.all_digits.Statement.{statement}
-use Rattle.numbers.proofs.all_digits.Tie as tie
+use Rattle.text.specs.Digits.{allDigits}
+use Rattle.text.proofs.Worth.{digit-here, no-digit-here}
+use Rattle.text.proofs.digits.all_digits.Statement.{statement}
+use Rattle.text.proofs.digits.all_digits.Tie as tie
 
 abbrev Inv-loop : tie.InvT-loop
 Inv-loop text i₀ i = (i ≤ length text) × (allDigits text ≡ allDigits (drop i text))
