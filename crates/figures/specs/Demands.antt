@@ -4,9 +4,9 @@ use mathlib.Core.Path.{_≡_}
 use mathlib.Core.Bool.{true, false, _||_}
 use mathlib.Core.Logic.{_⊎_}
 use mathlib.Core.List.{List, [], _∷_, _++_, map, reverse}
-use Prim.Native.Nat.{ℕ, zero, suc, _+_, _*_, _≤_, _<_}
+use Prim.Native.Nat.{ℕ, _+_, _*_, _≤_, _<_}
 use lib.ListN.{take}
-use Rattle.terms.specs.Choice.{∣_∣}
+use Rattle.terms.specs.Choice.{∣_∣, numbersFrom}
 use Rattle.terms.specs.Limits.{knownSize}
 use Rattle.terms.specs.Policies.{car, cart, fifo, clock, lru, knownPolicy}
 use Rattle.figures.specs.Entry.{Entry, bits, short, long, total, has}
@@ -231,12 +231,8 @@ pub record RunsAtMost : Type 0 where
 
 -- "for every c a sequence reaches each single-request bound": the pages 1 to c, where hits set bits the same again,
 -- then a new one. [Reached]
-abbrev pub pagesFrom : ℕ → ℕ → List ℕ
-pagesFrom x zero = []
-pagesFrom x (suc n) = x ∷ pagesFrom (suc x) n
-
 abbrev pub allTwice : ℕ → List ℕ
-allTwice c = pagesFrom 1 c ++ pagesFrom 1 c
+allTwice c = numbersFrom 1 c ++ numbersFrom 1 c
 
 abbrev pub Reaches : ℕ → (ℕ → List ℕ) → (ℕ → ℕ) → Type 0
 Reaches policy trace most = FromFresh (λ c. lastMoves policy c (trace c) (c + 1) ≡ most c)
@@ -244,9 +240,9 @@ Reaches policy trace most = FromFresh (λ c. lastMoves policy c (trace c) (c + 1
 pub record BoundsReached : Type 0 where
   pub by-car : Reaches car allTwice (λ c. c + 1)
   pub by-cart : Reaches cart allTwice (λ c. 2 * c + 1)
-  pub by-fifo : Reaches fifo (pagesFrom 1) (λ c. 1)
+  pub by-fifo : Reaches fifo (numbersFrom 1) (λ c. 1)
   pub by-clock : Reaches clock allTwice (λ c. c + 1)
-  pub by-lru : Reaches lru (pagesFrom 1) (λ c. 1)
+  pub by-lru : Reaches lru (numbersFrom 1) (λ c. 1)
 
 -- LRU
 

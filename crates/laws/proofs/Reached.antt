@@ -7,7 +7,7 @@ use mathlib.Core.List.{List, [], _∷_, _++_, append-assoc, append-nil}
 use Prim.Native.Nat.{ℕ, zero, suc, _+_, _-_, _*_, _≤_, _<_, max}
 use native.Mathlib.Omega.{arith}
 use borrow.Author.Tests.{eq-eqb, ne-eqb, le-leb}
-use Rattle.terms.specs.Choice.{if_then_else_, ∣_∣}
+use Rattle.terms.specs.Choice.{if_then_else_, ∣_∣, numbersFrom}
 use Rattle.terms.specs.Policies.{car, cart, fifo, clock, lru}
 use Rattle.figures.specs.Entry.{Entry, newShort, newLong, marked, bits, short, long, total, has, mark}
 use Rattle.figures.specs.Directory.{Directory, unit, fresh, withLists, withQ, hit, placeNew}
@@ -17,7 +17,7 @@ use Rattle.figures.specs.Cart as Cart
 use Rattle.figures.specs.Classics as Classics
 use Rattle.figures.specs.Policy.{policyOf}
 use Rattle.figures.specs.Request.{Served, request}
-use Rattle.figures.specs.Demands.{pagesFrom, allTwice, lastMoves, Reaches, BoundsReached}
+use Rattle.figures.specs.Demands.{allTwice, lastMoves, Reaches, BoundsReached}
 use Rattle.laws.proofs.Requests.{serve-hit, serve-room, serve-full, missed-moves, after, run-after, after-append}
 use Rattle.laws.proofs.Lists.{is, total-append, counts-has, is-itself}
 
@@ -73,18 +73,18 @@ module _ (policy c : ℕ) where
 
   -- The first time through: T1 fills.
   fills : (n k x : ℕ) → x ≡ 1 + k → k + n ≤ c
-      → after (pagesFrom x n) (only (made newShort 1 k)) ≡ only (made newShort 1 (k + n))
+      → after (numbersFrom x n) (only (made newShort 1 k)) ≡ only (made newShort 1 (k + n))
   fills zero k x e h = let same : k + 0 ≡ k = omega arith in rw same
   fills (suc n) k x e h =
       let lacks = not-made newShort (λ y. refl) k 1 x (omega arith) in
       let placed = requests-new x (made newShort 1 k) lacks (omega (arith, length-made newShort k 1)) in
       let step = placed ∙ ap only (made-grown newShort k 1 x e) in
       let same : k + suc n ≡ suc k + n = omega arith in
-      ap (after (pagesFrom (suc x) n)) step ∙ rw same (fills n (suc k) (suc x) (omega arith) (omega arith))
+      ap (after (numbersFrom (suc x) n)) step ∙ rw same (fills n (suc k) (suc x) (omega arith) (omega arith))
 
   -- The second time: every page is marked.
   marks : policyOf policy .hit ≡ hit → (n k x : ℕ) → x ≡ 1 + k
-      → after (pagesFrom x n) (only (made hitOnce 1 k ++ made newShort x n)) ≡ only (made hitOnce 1 (k + n))
+      → after (numbersFrom x n) (only (made hitOnce 1 k ++ made newShort x n)) ≡ only (made hitOnce 1 (k + n))
   marks by-marking zero k x e = let same : k + 0 ≡ k = omega arith in rw (append-nil, same)
   marks by-marking (suc n) k x e =
       let r = made newShort (suc x) n in
@@ -95,10 +95,10 @@ module _ (policy c : ℕ) where
       rw (e, marks-made hitOnce (λ y. refl) k 1, eq-eqb (1 + k) (1 + k) refl, made-tail hitOnce k 1) in
       let same : k + suc n ≡ suc k + n = omega arith in
       let step = requests-old by-marking x l found ∙ ap only marked-one in
-      ap (after (pagesFrom (suc x) n)) step ∙ rw same (marks by-marking n (suc k) (suc x) (omega arith))
+      ap (after (numbersFrom (suc x) n)) step ∙ rw same (marks by-marking n (suc k) (suc x) (omega arith))
 
   -- Once, and both times.
-  fills-once : after (pagesFrom 1 c) (fresh policy c) ≡ only (made newShort 1 c)
+  fills-once : after (numbersFrom 1 c) (fresh policy c) ≡ only (made newShort 1 c)
   fills-once = let same : 0 + c ≡ c = omega arith in rw same at (fills c 0 1 refl (omega arith))
 
   fills-and-marks : policyOf policy .hit ≡ hit → after (allTwice c) (fresh policy c) ≡ only (made hitOnce 1 c)
@@ -263,8 +263,8 @@ bounds-reached = record {
   by-car = car-reached;
   by-cart = cart-reached;
   by-fifo = λ c some most.
-      last-moves fifo c (pagesFrom 1 c) newShort (λ x. refl) (fills-once fifo c) ∙ head-forgotten fifo c some;
+      last-moves fifo c (numbersFrom 1 c) newShort (λ x. refl) (fills-once fifo c) ∙ head-forgotten fifo c some;
   by-clock = clock-reached;
   by-lru = λ c some most.
-      last-moves lru c (pagesFrom 1 c) newShort (λ x. refl) (fills-once lru c) ∙ head-forgotten lru c some;
+      last-moves lru c (numbersFrom 1 c) newShort (λ x. refl) (fills-once lru c) ∙ head-forgotten lru c some;
 }

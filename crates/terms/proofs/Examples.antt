@@ -16,6 +16,8 @@ edges = record {
   trace = refl;
   sheet = refl;
   result = refl;
+  council's-trace = refl;
+  page-number = refl;
 }
 
 pub numbered : PolicyNumbers

@@ -1,8 +1,9 @@
--- The words that rules are written with: a choice by a test, all of some tests, the size of a list, two lists compared.
+-- The words that rules are written with: a choice by a test, all of some tests, the size of a list, two lists compared,
+-- numbers in a row.
 -- Nothing here is about caches or sheets.
 use mathlib.Core.Bool.{Bool, true, false}
 use mathlib.Core.List.{List, [], _∷_}
-use Prim.Native.Nat.{ℕ}
+use Prim.Native.Nat.{ℕ, zero, suc}
 use lib.ListN.{length}
 use lib.Dec.{leb, eqb}
 
@@ -31,3 +32,8 @@ same [] [] = true
 same [] (y ∷ b) = false
 same (x ∷ a) [] = false
 same (x ∷ a) (y ∷ b) = if eqb x y then same a b else false
+
+-- So many numbers in a row, from x on.
+abbrev pub numbersFrom : ℕ → ℕ → List ℕ
+numbersFrom x zero = []
+numbersFrom x (suc n) = x ∷ numbersFrom (suc x) n

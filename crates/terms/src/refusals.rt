@@ -19,3 +19,7 @@ pub const SHEET_TOO_LONG: u32 = 7;
 pub const NO_SUCH_LINE: u32 = 8;
 
 pub const NOT_IN_FORM: u32 = 9;
+
+pub const NO_RECORD: u32 = 10;
+
+pub const PAGE_TOO_LARGE: u32 = 11;
