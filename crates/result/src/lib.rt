@@ -84,7 +84,7 @@ fn put_named(out: &mut [u8], at: usize, name: &[u8], n: u32) -> usize
 }
 
 // Puts a line: a key, a number, a line feed.
-fn put_line(out: &mut [u8], at: usize, key: &[u8], n: u32) -> usize
+pub fn put_line(out: &mut [u8], at: usize, key: &[u8], n: u32) -> usize
     requires { ⌜ PutFits (now out) at (lineOf (now key) (decimal n)) ⌝ }
     ensures { λ r. ⌜ Put (now (out .entry)) at (lineOf (now (key .entry)) (decimal n)) (now (out .exit)) r ⌝ }
 {
