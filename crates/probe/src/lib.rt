@@ -2,6 +2,7 @@
 // It ends with the input or after 100,000 calls; at a call that it cannot read it says so and fails.
 mod directory_calls;
 mod sheet_calls;
+mod trace_calls;
 mod wire;
 
 // What came of a call.
@@ -29,6 +30,7 @@ fn answer(
         5 => sheet_calls::read_bid(sheet, pages, raw),
         6 => sheet_calls::look_up(sheet, raw),
         7 => sheet_calls::write_result(out, raw),
+        8 => trace_calls::take_pages(sheet, pages, raw),
         _ => wire::unreadable(),
     }
 }
