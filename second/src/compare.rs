@@ -1,13 +1,14 @@
-// Drives the other side's probe, score, ledger and copy as child processes with seeded inputs and compares
+// Drives the other side's probe, score, ledger, copy and spc as child processes with seeded inputs and compares
 // every answer word, all lent memory and the processes' ends with our own; tells each group's first difference.
 
 use crate::copy::{copy_of, means_as_before};
 use crate::copy_sheets::copy_sheets;
-use crate::drive::{drive, our_own, Did, End};
+use crate::drive::{drive, our_own, Did, End, Status};
 use crate::inputs::{program_sheets, wire_streams, Group, GROUPS};
 use crate::probe::{answer, op, probe, put_call, shape, to_bytes, Call, Words};
-use crate::programs::{copy, ledger, score};
+use crate::programs::{copy, ledger, score, spc, unit_of};
 use crate::random::Random;
+use crate::spc_starts::{spc_starts, Start};
 use crate::tell;
 
 const LONGEST_BUFFER: usize = 20_000;
@@ -26,7 +27,7 @@ pub fn compare(seed: u64, full: bool, command: &[String]) -> usize {
         counts.push(compare_group(group, &mut random_of(seed, at as u64), full, command));
     }
     let mut random = random_of(seed, 900);
-    counts.push(compare_programs(&mut random, &mut random_of(seed, 901), full, command));
+    counts.push(compare_programs([&mut random, &mut random_of(seed, 901), &mut random_of(seed, 902)], full, command));
     counts.push(compare_wire(&mut random, full, command));
     let cases: usize = counts.iter().map(|count| count.cases).sum();
     let differences = counts.iter().map(|count| count.differences).sum();
@@ -79,7 +80,7 @@ fn compare_group(group: &Group, random: &mut Random, full: bool, command: &[Stri
 fn compare_calls(calls: &[Call], count: &mut Count, command: &[String]) {
     let mut words = Vec::new();
     calls.iter().for_each(|call| put_call(call, &mut words));
-    let (good, did) = (End::good(), drive(command, "probe", to_bytes(&words)));
+    let (good, did) = (End::good(), drive(command, &[b"probe"], to_bytes(&words)));
     let mut stream = Words::new(&did.output);
     for (at, call) in calls.iter().enumerate() {
         let ours = answer(call.clone());
@@ -108,8 +109,8 @@ fn take_answer(stream: &mut Words, op: u32) -> Option<Vec<u32>> {
 
 // ---- programs and wire ----
 
-/// Score and ledger over the same sheets, copy over its own.
-fn compare_programs(random: &mut Random, for_copies: &mut Random, full: bool, command: &[String]) -> Count {
+/// Score and ledger over the same sheets, copy and spc over their own inputs, which have their own draws.
+fn compare_programs([random, for_copies, for_starts]: [&mut Random; 3], full: bool, command: &[String]) -> Count {
     let mut count = Count::new("programs");
     for sheet in program_sheets(random, if full { 970 } else { 210 }) {
         for (name, program) in [("score", score as fn(&[u8]) -> Vec<u8>), ("ledger", ledger)] {
@@ -120,13 +121,16 @@ fn compare_programs(random: &mut Random, for_copies: &mut Random, full: bool, co
     for sheet in copy_sheets(for_copies, if full { 931 } else { 45 }) {
         compare_copy(&sheet, &mut count, command);
     }
+    for start in spc_starts(for_starts, if full { 350 } else { 10 }) {
+        compare_start(&start, &mut count, command);
+    }
     count.print()
 }
 
 /// What our program and the other side's do over the sheet.
 fn both_sides(name: &str, program: fn(&[u8]) -> Vec<u8>, sheet: &[u8], command: &[String]) -> (Did, Did) {
     let ours = Did { output: program(sheet), end: End::good() };
-    (ours, drive(command, name, sheet.to_vec()))
+    (ours, drive(command, &[name.as_bytes()], sheet.to_vec()))
 }
 
 /// Both sides alike; and if the sheet is copied, theirs means what the sheet meant, which tells a fault of ours as well.
@@ -137,11 +141,29 @@ fn compare_copy(sheet: &[u8], count: &mut Count, command: &[String]) {
     count.case(differs.then_some(|| tell::copies(sheet, &ours, &theirs, means_other)));
 }
 
+/// Both sides alike; where the arguments name no unit, theirs tells so in its own words.
+fn compare_start(start: &Start, count: &mut Count, command: &[String]) {
+    let words: Vec<&[u8]> = [&b"spc"[..]].into_iter().chain(start.arguments.iter().map(Vec::as_slice)).collect();
+    let theirs = drive(command, &words, start.trace.clone());
+    let (ours, alike) = match unit_of(&start.arguments) {
+        Some(unit) => {
+            let ours = Did { output: spc(&start.trace, unit), end: End::good() };
+            let alike = theirs.alike(&ours);
+            (ours, alike)
+        }
+        None => {
+            let usage = End { error: b"spc UNIT\n".to_vec(), status: Status::Number(2) };
+            (Did { output: Vec::new(), end: usage }, theirs.is_usage())
+        }
+    };
+    count.case((!alike).then_some(|| tell::starts(&start.arguments, &start.trace, &ours, &theirs)));
+}
+
 fn compare_wire(random: &mut Random, full: bool, command: &[String]) -> Count {
     let mut count = Count::new("wire");
-    for input in wire_streams(random, if full { 40 } else { 26 }) {
+    for input in wire_streams(random, if full { 44 } else { 30 }) {
         let ours = our_own(probe, &input);
-        let theirs = drive(command, "probe", input.clone());
+        let theirs = drive(command, &[b"probe"], input.clone());
         count.case((!theirs.alike(&ours)).then_some(|| tell::streams(&input, &ours, &theirs)));
     }
     count.print()
@@ -177,6 +199,32 @@ mod tests {
         assert_eq!((shell_copies("cat", &good), shell_copies("sed '1s/=$/=cart/'", &good)), (1, 1));
         assert_eq!((shell_copies("sed '1s/=.*$/=car/'", &good), shell_copies("sed '1s/=$/=car/'; exit 1", &good)), (2, 4));
         assert_eq!((shell_copies(seven, &refused), shell_copies("sed '1s/=$/=car/'", &refused), shell_copies(seven, &good)), (0, 2, 4));
+    }
+
+    /// Differences of the starts against a shell's.
+    fn shell_starts(text: &str, starts: &[(&[&str], &[u8])]) -> usize {
+        let command = ["sh", "-c", text, "sh"].map(str::to_string);
+        let mut count = Count::new("starts");
+        for (arguments, trace) in starts {
+            let arguments = arguments.iter().map(|argument| argument.as_bytes().to_vec()).collect();
+            compare_start(&Start { arguments, trace: trace.to_vec() }, &mut count, &command);
+        }
+        assert_eq!(count.cases, starts.len());
+        count.differences
+    }
+
+    #[test]
+    fn starts_are_compared() {
+        let (one, ten, none): (&[u8], &[u8], &[u8]) = (b"7,8,1,r,0.0\n", b"7,8,1,r,0\n", b"7,8,1,w,0.0\n");
+        let named: [(&[&str], &[u8]); 3] = [(&["7"], one), (&["007"], ten), (&["7"], none)];
+        let wrong: [(&[&str], &[u8]); 4] = [(&[], one), (&[""], one), (&["7", "7"], one), (&["x"], ten)];
+        let right = "case $1$(cat) in spc*w,0.0) ;; spc*r,0) echo refused=10; echo line=1 ;; spc*) echo page=1 ;; esac";
+        assert_eq!((shell_starts(right, &named), shell_starts("echo page=1", &named), shell_starts(right, &wrong)), (0, 2, 4));
+        assert_eq!((shell_starts("echo UNIT >&2; exit 2", &wrong), shell_starts("echo UNIT >&2; echo more >&2; exit 1", &wrong)), (0, 0));
+        for other in ["echo UNIT >&2", "exit 2", "echo UNIT; exit 2", "echo UNIT; echo UNIT >&2; exit 2", "echo UNIT >&2; exit 101"] {
+            assert_eq!(shell_starts(other, &wrong), 4, "{other}");
+        }
+        assert_eq!(shell_starts("echo UNIT >&2; exit 2", &named), 3);
     }
 
     #[test]

@@ -1,7 +1,9 @@
 // What a program did: its standard output, its standard error and its status; and the driver,
 // which runs the other side's program over an input as a child process and keeps all three.
 
+use std::ffi::OsStr;
 use std::io::{Read, Write};
+use std::os::unix::ffi::OsStrExt;
 use std::os::unix::process::ExitStatusExt;
 use std::process::{Child, Command, ExitStatus, Stdio};
 use std::sync::mpsc::{channel, Receiver};
@@ -9,6 +11,7 @@ use std::thread;
 use std::time::{Duration, Instant};
 
 const LONGEST_WAIT: Duration = Duration::from_secs(900);
+const PANIC: i32 = 101;
 
 /// A program over an input; an error is what it says on standard error.
 pub type Program = fn(&[u8], &mut dyn Write) -> std::io::Result<()>;
@@ -36,6 +39,12 @@ pub enum Status {
 impl Did {
     pub fn alike(&self, other: &Did) -> bool {
         self.output == other.output && self.end.alike(&other.end)
+    }
+
+    /// A wrong use told: nothing on standard output, text on standard error and a status that is neither 0 nor a panic's.
+    pub fn is_usage(&self) -> bool {
+        let told = self.end.error.ends_with(b"\n") && !self.end.error.trim_ascii().is_empty();
+        self.output.is_empty() && told && matches!(self.end.status, Status::Number(number) if number != 0 && number != PANIC)
     }
 }
 
@@ -73,13 +82,13 @@ pub fn our_own(program: Program, input: &[u8]) -> Did {
     Did { output, end }
 }
 
-/// Runs `COMMAND... program` over the input. The child may end before it has read all of it.
-pub fn drive(command: &[String], program: &str, input: Vec<u8>) -> Did {
-    drive_until(Instant::now() + LONGEST_WAIT, command, program, input)
+/// Runs `COMMAND... WORDS...`, the program's name first, over the input. The child may end before it has read all of it.
+pub fn drive(command: &[String], words: &[&[u8]], input: Vec<u8>) -> Did {
+    drive_until(Instant::now() + LONGEST_WAIT, command, words, input)
 }
 
-fn drive_until(until: Instant, command: &[String], program: &str, input: Vec<u8>) -> Did {
-    let mut child = start(command, program);
+fn drive_until(until: Instant, command: &[String], words: &[&[u8]], input: Vec<u8>) -> Did {
+    let mut child = start(command, words);
     let (Some(mut stdin), Some(stdout), Some(stderr)) = (child.stdin.take(), child.stdout.take(), child.stderr.take()) else {
         stop("a child without pipes");
     };
@@ -87,17 +96,18 @@ fn drive_until(until: Instant, command: &[String], program: &str, input: Vec<u8>
     let (output, error) = (all_of(stdout), all_of(stderr));
     let all = (received(&output, until), received(&error, until), ended(&mut child, until));
     let (Some(output), Some(error), Some(status)) = all else {
-        println!("the child of {command:?} {program} does not end, it is stopped");
+        let shown = words.join(&b' ').escape_ascii().to_string();
+        println!("the child of {command:?} {shown} does not end, it is stopped");
         let _ = (child.kill(), child.wait());
         return Did { output: Vec::new(), end: End { error: Vec::new(), status: Status::Stopped } };
     };
     Did { output, end: End { error, status: status_of(status) } }
 }
 
-fn start(command: &[String], program: &str) -> Child {
+fn start(command: &[String], words: &[&[u8]]) -> Child {
     let started = Command::new(&command[0])
         .args(&command[1..])
-        .arg(program)
+        .args(words.iter().map(|word| OsStr::from_bytes(word)))
         .stdin(Stdio::piped())
         .stdout(Stdio::piped())
         .stderr(Stdio::piped())
@@ -160,7 +170,7 @@ mod tests {
 
     #[test]
     fn output_error_and_status_are_kept() {
-        let driven = |text| drive(&shell(text), "score", b"abc\n".to_vec());
+        let driven = |text| drive(&shell(text), &[b"score"], b"abc\n".to_vec());
         assert_eq!(driven("cat"), did(b"abc\n", b"", Status::Number(0)));
         assert_eq!(driven("cat; exit 3"), did(b"abc\n", b"", Status::Number(3)));
         assert_eq!(driven("cat; echo \"$1 x\" >&2"), did(b"abc\n", b"score x\n", Status::Number(0)));
@@ -168,10 +178,17 @@ mod tests {
     }
 
     #[test]
+    fn all_words_are_given() {
+        let driven = |words: &[&[u8]]| drive(&shell("printf '%s|' $# \"$@\""), words, vec![]).output;
+        assert_eq!(driven(&[b"spc"]), b"1|spc|");
+        assert_eq!(driven(&[b"spc", b"", b" 7\xff"]), b"3|spc|| 7\xff|");
+    }
+
+    #[test]
     fn a_child_need_not_read_its_input() {
         let much = vec![b'x'; 1_000_000];
-        assert_eq!(drive(&shell("echo a; exit 0"), "probe", much.clone()), did(b"a\n", b"", Status::Number(0)));
-        assert_eq!(drive(&shell("echo a >&2; exit 1"), "probe", much), did(b"", b"a\n", Status::Number(1)));
+        assert_eq!(drive(&shell("echo a; exit 0"), &[b"probe"], much.clone()), did(b"a\n", b"", Status::Number(0)));
+        assert_eq!(drive(&shell("echo a >&2; exit 1"), &[b"probe"], much), did(b"", b"a\n", Status::Number(1)));
     }
 
     #[test]
@@ -179,9 +196,20 @@ mod tests {
         let stopped = did(b"", b"", Status::Stopped);
         for text in ["echo a; exec sleep 5", "exec >&- 2>&-; exec sleep 5", "sleep 5 & exit 0"] {
             let until = Instant::now() + Duration::from_millis(300);
-            let driven = drive_until(until, &shell(text), "score", Vec::new());
+            let driven = drive_until(until, &shell(text), &[b"score"], Vec::new());
             assert!(driven == stopped && !driven.alike(&stopped), "{text}");
         }
+    }
+
+    #[test]
+    fn a_wrong_use_is_told() {
+        assert!(did(b"", b"spc UNIT\n", Status::Number(2)).is_usage() && did(b"", b"spc UNIT\nmore\n", Status::Number(1)).is_usage());
+        let others = [
+            did(b"", b"spc UNIT\n", Status::Number(0)), did(b"x", b"spc UNIT\n", Status::Number(2)), did(b"", b"", Status::Number(2)),
+            did(b"", b"\n", Status::Number(2)), did(b"", b"x\n", Status::Number(101)), did(b"", b"x\n", Status::Signal(6)),
+            did(b"", b"x\n", Status::Stopped), did(b"", b"x", Status::Number(2)),
+        ];
+        others.iter().for_each(|other| assert!(!other.is_usage(), "{other:?}"));
     }
 
     #[test]

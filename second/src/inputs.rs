@@ -10,6 +10,7 @@ use crate::request::{request, serve};
 use crate::result::Outcome;
 use crate::rules::rules;
 use crate::run::run;
+use crate::traces;
 
 /// A group of probe calls: its name, its cases in a full comparison, the most cases of one probe process,
 /// and what draws that many calls.
@@ -20,7 +21,7 @@ pub struct Group {
     pub draw: fn(&mut Random, usize) -> Vec<Call>,
 }
 
-pub const GROUPS: [Group; 8] = [
+pub const GROUPS: [Group; 9] = [
     Group { name: "requests", cases: 5_500_000, at_once: 80_000, draw: requests },
     Group { name: "odd", cases: 3_300_000, at_once: 80_000, draw: odd },
     Group { name: "runs", cases: 11_000, at_once: 300, draw: runs },
@@ -29,6 +30,7 @@ pub const GROUPS: [Group; 8] = [
     Group { name: "sheets", cases: 140_000, at_once: 4_000, draw: sheets },
     Group { name: "result", cases: 54_000, at_once: 12_000, draw: results },
     Group { name: "rules", cases: 120_000, at_once: 12_000, draw: rules },
+    Group { name: "council", cases: 60_000, at_once: 3_000, draw: council },
 ];
 
 // ---- requests ----
@@ -406,6 +408,20 @@ fn wait(random: &mut Random) -> u64 {
     random.pick(&[0, ten - 1, ten, ten + 1, less, u64::MAX, u32::MAX as u64, 1 << 32, any])
 }
 
+// ---- council ----
+
+fn council(random: &mut Random, count: usize) -> Vec<Call> {
+    (0..count)
+        .map(|_| {
+            let unit = traces::any_unit(random);
+            let file = traces::any_trace(random, unit);
+            let short = random.below(1000);
+            let length = random.pick(&[1000, 1000, 1000, 1000, 1000, 1000, 1000, 1000, 1001, 1001, 1100, 1100, 999, short]);
+            Call::Council { file, unit, pages: random.words(length) }
+        })
+        .collect()
+}
+
 // ---- programs ----
 
 /// Sheets for score and ledger: the worked one under all policies, blank, and blank but for a CR; the limits; then so many
@@ -482,15 +498,15 @@ fn evicting_trace(random: &mut Random, mut d: Directory, count: usize) -> Vec<u3
 /// Streams that end well, stop in the middle, or hold a call that cannot be read.
 pub fn wire_streams(random: &mut Random, count: usize) -> Vec<Vec<u8>> {
     let mut streams = ended_streams(random);
-    let unreadable: [&[u32]; 18] = [
-        &[0], &[8], &[u32::MAX], &[1, 1, 1, 4201], &[2, 4201], &[2, u32::MAX], &[3, 1 << 30], &[4, 0, 1101], &[4, 0, 0, 4501],
+    let unreadable: [&[u32]; 22] = [
+        &[0], &[9], &[u32::MAX], &[1, 1, 1, 4201], &[2, 4201], &[2, u32::MAX], &[3, 1 << 30], &[4, 0, 1101], &[4, 0, 0, 4501],
         &[5, 17001], &[5, 0, 1101], &[5, 1, 256], &[6, 2, 61, 266], &[6, 17001], &[7, 1, 1, 1, 1, 1, 1, 1, 1, 1, 401],
-        &[7, 1, 1, 1, 1, 1, 1, 1, 1, 1, 1, 256], &[1], &[3, 0],
+        &[7, 1, 1, 1, 1, 1, 1, 1, 1, 1, 1, 256], &[8, 17001], &[8, 1, 256], &[8, 0, 1, 1101], &[1], &[3, 0], &[8, 0],
     ];
     for stop in unreadable {
         let mut words = few_calls(random);
         words.extend_from_slice(stop);
-        if stop != [1] && stop != [3, 0] {
+        if !matches!(stop, [1] | [3, 0] | [8, 0]) {
             words.extend(vec![0; 20_000]);
         }
         streams.push(to_bytes(&words));
@@ -507,7 +523,7 @@ pub fn wire_streams(random: &mut Random, count: usize) -> Vec<Vec<u8>> {
 /// No call, 100,000 calls, these and one that cannot be read but need not be; whole calls, and 1 or 3 bytes more.
 fn ended_streams(random: &mut Random) -> Vec<Vec<u8>> {
     let many = [2, 0].repeat(100_000);
-    let over = [&many[..], &[8]].concat();
+    let over = [&many[..], &[9]].concat();
     let whole = to_bytes(&few_calls(random));
     let (one, three) = ([&whole[..], &[2]].concat(), [&whole[..], &[2, 0, 0]].concat());
     vec![vec![], to_bytes(&many), to_bytes(&over), whole, one, three]
@@ -590,9 +606,9 @@ mod tests {
         println!("{drawn:?}");
         let wanted = [("runs", 4, "056"), ("damaged", 2, "01234"), ("damaged", 3, "01234"), ("damaged", 4, "012346"),
             ("fresh", 1, "0123"), ("sheets", 5, "01256789"), ("sheets", 6, "078"), ("result", 7, "016"),
-            ("rules", 2, "014"), ("rules", 3, "014"), ("rules", 4, "0146")];
+            ("rules", 2, "014"), ("rules", 3, "014"), ("rules", 4, "0146"), ("council", 8, "0567ab")];
         for (group, op, numbers) in wanted {
-            for number in numbers.bytes().map(|digit| (digit - b'0') as u32) {
+            for number in numbers.chars().filter_map(|digit| digit.to_digit(16)) {
                 assert!(drawn.contains_key(&(group, op, number)), "{group} {op} {number}");
             }
         }
@@ -665,13 +681,13 @@ mod tests {
 
     #[test]
     fn streams_end_in_both_ways() {
-        let streams = wire_streams(&mut Random::new(8), 40);
+        let streams = wire_streams(&mut Random::new(8), 44);
         let error = |stream: &Vec<u8>| probe(stream, &mut Vec::new()).map_or_else(|why| why.to_string(), |()| String::new());
         let errors: Vec<String> = streams.iter().map(error).collect();
-        assert_eq!(streams.len(), 40);
+        assert_eq!(streams.len(), 44);
         assert_eq!(errors[..4], ["", "", "", ""]);
-        assert!(errors[4..24].iter().all(|text| text.ends_with(" cannot be read")), "{errors:?}");
-        assert!(streams[24..].iter().any(|stream| stream.len() % 4 != 0));
+        assert!(errors[4..28].iter().all(|text| text.ends_with(" cannot be read")), "{errors:?}");
+        assert!(streams[28..].iter().any(|stream| stream.len() % 4 != 0));
     }
 
     #[test]

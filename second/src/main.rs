@@ -1,10 +1,11 @@
-// The command line: the programs probe, score, ledger and copy over standard input and output,
-// and compare, which drives another side's four programs and compares.
+// The command line: the programs probe, score, ledger, copy and spc over standard input and output,
+// and compare, which drives another side's five programs and compares.
 
 mod bids;
 mod compare;
 mod copy;
 mod copy_sheets;
+mod council;
 mod directory;
 mod drive;
 mod inputs;
@@ -17,21 +18,32 @@ mod result;
 mod rules;
 mod run;
 mod sheet;
+mod spc_starts;
 mod tell;
+mod traces;
 
 use std::io::{BufWriter, Read, Write};
 use std::process::ExitCode;
 
 fn main() -> ExitCode {
-    let words: Vec<String> = std::env::args().skip(1).collect();
+    let words: Vec<String> = std::env::args_os().skip(1).map(|word| word.to_string_lossy().into_owned()).collect();
     match words.first().map(String::as_str) {
         Some("probe") => over_standard(probe::probe),
         Some("score") => over_standard(|sheet, output| output.write_all(&programs::score(sheet))),
         Some("ledger") => over_standard(|sheet, output| output.write_all(&programs::ledger(sheet))),
         Some("copy") => over_standard(|sheet, output| output.write_all(&programs::copy(sheet))),
+        Some("spc") => spc_of(&words[1..]),
         Some("compare") => compare_with(&words[1..]),
         _ => usage(),
     }
+}
+
+/// `spc UNIT`; the trace is not read if that is no unit.
+fn spc_of(arguments: &[String]) -> ExitCode {
+    let Some(unit) = programs::unit_of(arguments) else {
+        return usage();
+    };
+    over_standard(|trace, output| output.write_all(&programs::spc(trace, unit)))
 }
 
 /// `compare --seed N --size small|full -- COMMAND...`; status 1 if anything differs.
@@ -50,13 +62,13 @@ fn compare_with(words: &[String]) -> ExitCode {
 }
 
 fn usage() -> ExitCode {
-    eprintln!("second probe|score|ledger|copy, or second compare --seed N --size small|full -- COMMAND...");
+    eprintln!("second probe|score|ledger|copy, or second spc UNIT, or second compare --seed N --size small|full -- COMMAND...");
     ExitCode::from(2)
 }
 
 /// All of standard input through the program to standard output; what it cannot do is one line on
 /// standard error and status 1, after all that it could.
-fn over_standard(program: drive::Program) -> ExitCode {
+fn over_standard(program: impl Fn(&[u8], &mut dyn Write) -> std::io::Result<()>) -> ExitCode {
     let mut input = Vec::new();
     let mut output = BufWriter::new(std::io::stdout().lock());
     let read = std::io::stdin().read_to_end(&mut input);

@@ -1,6 +1,7 @@
 // The probe's wire form: calls and answers as little-endian 32-bit words, a buffer as its length
 // and its elements; and the probe itself, which answers calls until the end or the first it cannot read.
 
+use crate::council;
 use crate::directory::{check, fresh};
 use crate::policy::BLANK;
 use crate::request::request;
@@ -26,6 +27,7 @@ pub enum Call {
     Read { sheet: Vec<u8>, pages: Vec<u32> },
     LookUp { sheet: Vec<u8>, line: u32 },
     Write { outcome: Outcome, out: Vec<u8> },
+    Council { file: Vec<u8>, unit: u32, pages: Vec<u32> },
 }
 
 /// The words of a stream, from the front.
@@ -91,6 +93,11 @@ pub fn read_call(words: &mut Words) -> Option<Call> {
         5 => Some(Call::Read { sheet: words.bytes(LONGEST_SHEET)?, pages: words.buffer(LONGEST_PAGES)? }),
         6 => Some(Call::LookUp { sheet: words.bytes(LONGEST_SHEET)?, line: words.word()? }),
         7 => Some(Call::Write { outcome: read_outcome(words)?, out: words.bytes(LONGEST_OUT)? }),
+        8 => Some(Call::Council {
+            file: words.bytes(LONGEST_SHEET)?,
+            unit: words.word()?,
+            pages: words.buffer(LONGEST_PAGES)?,
+        }),
         _ => None,
     }
 }
@@ -135,6 +142,11 @@ pub fn put_call(call: &Call, words: &mut Vec<u32>) {
             words.extend([o.wait as u32, (o.wait >> 32) as u32]);
             put_bytes(words, out);
         }
+        Call::Council { file, unit, pages } => {
+            put_bytes(words, file);
+            words.push(*unit);
+            put_buffer(words, pages);
+        }
     }
 }
 
@@ -147,12 +159,13 @@ pub fn op(call: &Call) -> u32 {
         Call::Read { .. } => 5,
         Call::LookUp { .. } => 6,
         Call::Write { .. } => 7,
+        Call::Council { .. } => 8,
     }
 }
 
 /// How many numbers and how many buffers the answer of an op has.
 pub fn shape(op: u32) -> (usize, usize) {
-    [(0, 0), (1, 1), (1, 0), (5, 1), (6, 2), (6, 1), (2, 1), (2, 1)][op as usize]
+    [(0, 0), (1, 1), (1, 0), (5, 1), (6, 2), (6, 1), (2, 1), (2, 1), (3, 1)][op as usize]
 }
 
 /// Carries the call out: the words of its answer and of the lent buffers after it.
@@ -184,6 +197,10 @@ pub fn answer(call: Call) -> Vec<u32> {
             let mut words = vec![number, count];
             put_bytes(&mut words, &out);
             words
+        }
+        Call::Council { file, unit, mut pages } => {
+            let taken = council::pages(&file, unit, &mut pages);
+            joined(&[taken.number, taken.line, taken.count], &[&pages])
         }
     }
 }
@@ -248,6 +265,17 @@ mod tests {
         assert_eq!(probed(&[6, 4, 97, 61, 98, 10, 1]), [0, 2, 1, 98]);
         assert_eq!(probed(&[6, 4, 97, 61, 98, 10, 2]), [8, 0, 0]);
         assert_eq!(probed(&[7, 1, 0, 0, 0, 0, 0, 0, 0, 0, 2, 5, 6]), [6, 0, 2, 5, 6]);
+        assert_eq!(probed(&[8, 1, 10, 4, 2, 5, 6]), [6, 0, 0, 2, 5, 6]);
+    }
+
+    #[test]
+    fn pages_of_a_unit() {
+        let file = b"4294967295,7,513,r,0.0\n0,8,1,R,0.0\n".to_vec();
+        let answered = |file: &[u8], unit| answer(Call::Council { file: file.to_vec(), unit, pages: vec![5; 1000] });
+        assert_eq!(answered(&file, u32::MAX)[..7], [0, 0, 2, 1000, 0, 1, 5]);
+        assert_eq!(answered(&file, 0)[..6], [0, 0, 1, 1000, 1, 5]);
+        assert_eq!(answered(&file[..file.len() - 1], 0)[..5], [10, 2, 0, 1000, 5]);
+        assert_eq!(answered(b"", 3), [&[0, 0, 0, 1000], &[5; 1000][..]].concat());
     }
 
     #[test]
@@ -263,14 +291,18 @@ mod tests {
         assert_eq!(probed(&[2, 0, 2, 0]), [3, 3]);
         let many = [2, 0].repeat(MOST_CALLS);
         assert_eq!(probed(&many).len(), MOST_CALLS);
-        assert_eq!(probed(&[&many[..], &[8, 2, 0]].concat()).len(), MOST_CALLS);
+        assert_eq!(probed(&[&many[..], &[9, 2, 0]].concat()).len(), MOST_CALLS);
         assert_eq!(told(&[&to_bytes(&many)[..], &[2]].concat()).1, "");
     }
 
     #[test]
     fn breaks_off_where_it_cannot_read() {
         let broken = (vec![3], "call 2 cannot be read".to_string());
-        for words in [&[8, 0, 2, 0][..], &[0], &[2], &[2, 1], &[2, 4201], &[3, 0], &[4, 0, 1101], &[6, 1, 256, 1], &[7, 1]] {
+        let unreadable: [&[u32]; 14] = [
+            &[9, 0, 2, 0], &[0], &[2], &[2, 1], &[2, 4201], &[3, 0], &[4, 0, 1101], &[6, 1, 256, 1], &[7, 1],
+            &[8], &[8, 17_001], &[8, 1, 256, 0, 0], &[8, 0, 0], &[8, 0, 0, 1101],
+        ];
+        for words in unreadable {
             assert_eq!(told(&to_bytes(&[&[2, 0], words].concat())), broken, "{words:?}");
         }
         let bytes = to_bytes(&[2, 0, 2, 0]);
@@ -293,6 +325,7 @@ mod tests {
             Call::Read { sheet: vec![255, 0], pages: vec![u32::MAX] },
             Call::LookUp { sheet: vec![10], line: 4 },
             Call::Write { outcome, out: vec![1] },
+            Call::Council { file: vec![255, 0, 10], unit: u32::MAX, pages: vec![4, 5] },
         ];
         let mut words = Vec::new();
         calls.iter().for_each(|call| put_call(call, &mut words));

@@ -1,7 +1,8 @@
-// The three programs over a bid sheet: score gives the result sheet or the two lines of a refusal, ledger the same
-// and then one line for each request, copy the sheet's copy or the two lines.
+// The programs over a bid sheet: score gives the result sheet or the two lines of a refusal, ledger the same and then one
+// line for each request, copy the sheet's copy or the two lines; and spc over a trace: a unit's page lines or the two lines.
 
 use crate::copy::copy_of;
+use crate::council::{self, Taken, PAGE_BUFFER};
 use crate::directory::{fresh, words_for};
 use crate::policy::BLANK;
 use crate::result::{write_result, Outcome, RESULT_BUFFER};
@@ -38,6 +39,24 @@ pub fn copy(sheet: &[u8]) -> Vec<u8> {
         Ok(copy) => copy,
         Err(refused) => refusal_lines(refused).into_bytes(),
     }
+}
+
+/// The program spc: a `page=` line for each page that the unit's reads touch, or `refused=N` and `line=N`.
+pub fn spc(trace: &[u8], unit: u32) -> Vec<u8> {
+    let mut pages = vec![0; PAGE_BUFFER];
+    let Taken { number, line, count } = council::pages(trace, unit, &mut pages);
+    if number != 0 {
+        return refusal_lines(Refused { number, line }).into_bytes();
+    }
+    pages[..count as usize].iter().map(|page| format!("page={page}\n")).collect::<String>().into_bytes()
+}
+
+/// The unit that spc's arguments name, which must be one argument.
+pub fn unit_of(arguments: &[impl AsRef<[u8]>]) -> Option<u32> {
+    let [argument] = arguments else {
+        return None;
+    };
+    council::unit(argument.as_ref())
 }
 
 fn serve_sheet(sheet: &[u8]) -> Result<Scored, String> {
@@ -134,6 +153,30 @@ mod tests {
         assert_eq!(copy(b"policy=\npages=2\nmisscost=1,25\n"), b"refused=9\nline=3\n");
         assert_eq!(copy(&crate::bids::of_length("", 15_998)), b"refused=7\nline=0\n");
         assert_eq!(copy(&[0; 20000]), b"refused=7\nline=0\n");
+    }
+
+    #[test]
+    fn page_lines_of_a_unit() {
+        let trace = b"0,007,513,r,0.0\n1,34359738367,512,R,0.0,\n0,8,1,w,0.0\n";
+        assert_eq!((spc(trace, 0), spc(trace, 1), spc(trace, 2)), (b"page=0\npage=1\n".to_vec(), b"page=4294967295\n".to_vec(), vec![]));
+        assert_eq!(spc(b"", 0), b"");
+        let sheet = [&b"policy=lru\npages=1\nmisscost=0,001\n"[..], &spc(b"0,8,1,r,0.0\n".repeat(1000).as_slice(), 0)].concat();
+        assert!(score(&sheet).starts_with(b"policy=lru\npages=1\nrequests=1000\nhits=999\n"));
+    }
+
+    #[test]
+    fn refused_traces() {
+        assert_eq!(spc(b"1,8,1,r,0.0\n0,8,1,w,0\n", 1), b"refused=10\nline=2\n");
+        assert_eq!(spc(b"1,34359738367,513,r,0.0\n", 1), b"refused=11\nline=1\n");
+        assert_eq!(spc(b"0,0,1,r,0.0\n0,0,4096000,r,0.0\n", 0), b"refused=5\nline=2\n");
+        assert_eq!(spc(&[b'\n'; 16_001], 0), b"refused=7\nline=0\n");
+    }
+
+    #[test]
+    fn one_argument_names_the_unit() {
+        assert_eq!((unit_of(&["7"]), unit_of(&["0004294967295"]), unit_of(&[b"0".to_vec()])), (Some(7), Some(u32::MAX), Some(0)));
+        let refused: [&[&str]; 9] = [&[], &["7", "7"], &["7", ""], &[""], &["+7"], &[" 7"], &["seven"], &["4294967296"], &["--help"]];
+        refused.iter().for_each(|arguments| assert_eq!(unit_of(arguments), None, "{arguments:?}"));
     }
 
     #[test]

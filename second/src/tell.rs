@@ -26,12 +26,12 @@ pub fn difference(call: &Call, ours: &[u32], theirs: Option<&[u32]>, more: bool)
     text + &format!("  ours:   {}\n  theirs: {}", words(ours), words(theirs))
 }
 
-/// What score, ledger or copy did on both sides.
-pub fn texts(name: &str, sheet: &[u8], ours: &Did, theirs: &Did) -> String {
+/// What score, ledger, copy or spc did on both sides.
+pub fn texts(name: &str, input: &[u8], ours: &Did, theirs: &Did) -> String {
     format!(
-        "  {name}, sheet of {} bytes: {}\n  {}\n  ours:   {}\n  theirs: {}{}",
-        sheet.len(),
-        bytes(sheet),
+        "  {name}, input of {} bytes: {}\n  {}\n  ours:   {}\n  theirs: {}{}",
+        input.len(),
+        bytes(input),
         outputs(ours, theirs),
         bytes(&ours.output),
         bytes(&theirs.output),
@@ -43,6 +43,12 @@ pub fn texts(name: &str, sheet: &[u8], ours: &Did, theirs: &Did) -> String {
 pub fn copies(sheet: &[u8], ours: &Did, theirs: &Did, means_other: bool) -> String {
     let meaning = if means_other { "\n  theirs does not mean what the sheet meant" } else { "" };
     texts("copy", sheet, ours, theirs) + meaning
+}
+
+/// What spc did on both sides with these arguments and this trace.
+pub fn starts(arguments: &[Vec<u8>], trace: &[u8], ours: &Did, theirs: &Did) -> String {
+    let shown: Vec<String> = arguments.iter().map(|argument| bytes(argument)).collect();
+    format!("  arguments [{}] of\n{}", shown.join(", "), texts("spc", trace, ours, theirs))
 }
 
 /// What the probe did on both sides.
@@ -97,6 +103,9 @@ fn arguments(call: &Call) -> String {
         Call::Read { sheet, pages } => format!("read sheet of {} bytes {}, {} pages", sheet.len(), bytes(sheet), pages.len()),
         Call::LookUp { sheet, line } => format!("look-up line={line} in sheet of {} bytes {}", sheet.len(), bytes(sheet)),
         Call::Write { outcome, out } => format!("write {outcome:?} out of {} bytes", out.len()),
+        Call::Council { file, unit, pages } => {
+            format!("council unit={unit} in trace of {} bytes {}, {} pages", file.len(), bytes(file), pages.len())
+        }
     }
 }
 
@@ -140,6 +149,7 @@ fn meaning(call: &Call, ours: &[u32], at: usize) -> String {
         Call::Read { .. } => (&["number", "line", "policy", "c", "miss cost", "count"], &["pages"]),
         Call::LookUp { .. } => (&["number", "start"], &["part"]),
         Call::Write { .. } => (&["number", "count"], &["out"]),
+        Call::Council { .. } => (&["number", "line", "count"], &["pages"]),
     };
     if at < numbers.len() {
         return numbers[at].to_string();
@@ -199,13 +209,30 @@ mod tests {
         assert!(text.contains("request page=6 on policy=2 c=1 p=0 q=0 T1=[5L] T2=[] B1=[] B2=[]"), "{text}");
         assert!(text.contains("word 4 (hand moves): ours 2, theirs 3"), "{text}");
     }
+
+    #[test]
+    fn a_trace_is_told() {
+        let call = Call::Council { file: b"0,8,1,r,0.0\n".to_vec(), unit: 0, pages: vec![5; 1000] };
+        let ours = crate::probe::answer(call.clone());
+        let told = [(0, "number"), (1, "line"), (2, "count"), (3, "length of pages"), (4, "element 0 of pages"), (1004, "past the answer")];
+        told.iter().for_each(|&(at, text)| assert_eq!(meaning(&call, &ours, at), text));
+        let mut theirs = ours.clone();
+        theirs[4] = 8;
+        let text = difference(&call, &ours, Some(&theirs), false);
+        assert!(text.contains("op 8: council unit=0 in trace of 12 bytes \"0,8,1,r,0.0\\n\", 1000 pages\n"), "{text}");
+        assert!(text.contains("word 4 (element 0 of pages): ours 1, theirs 8\n"), "{text}");
+        let did = Did { output: vec![], end: End::good() };
+        let text = starts(&[b"7".to_vec(), b"\xff".to_vec()], b"x", &did, &did);
+        assert!(text.starts_with("  arguments [\"7\", \"\\xff\"] of\n  spc, input of 1 bytes: \"x\"\n"), "{text}");
+    }
+
     #[test]
     fn both_ends_are_told() {
         let ours = Did { output: b"hits=2\n".to_vec(), end: End::good() };
         let mut theirs = ours.clone();
         theirs.end = End { error: b"late\n".to_vec(), status: Status::Number(1) };
         let text = texts("score", b"policy", &ours, &theirs);
-        assert!(text.starts_with("  score, sheet of 6 bytes: \"policy\"\n  the outputs of 7 bytes are equal\n"), "{text}");
+        assert!(text.starts_with("  score, input of 6 bytes: \"policy\"\n  the outputs of 7 bytes are equal\n"), "{text}");
         let told = "  end of ours:   standard error \"\", status 0\n  end of theirs: standard error \"late\\n\", status 1";
         assert!(text.ends_with(told), "{text}");
         assert_eq!(copies(b"policy", &ours, &theirs, false), texts("copy", b"policy", &ours, &theirs));
