@@ -15,32 +15,38 @@ use Rattle.traces.specs.Touch.{firstPage, lastPage, pageCount, touched, touches
 use Rattle.traces.specs.Trace.{yields, wrong, counted}
 use Rattle.records.specs.Answers.{beyond}
 
+pub in-order : (lba size : ℕ) → (size ≡ 0 → ⊥) → {first last : ℕ} → first ≡ firstPage lba → last ≡ lastPage lba size
+    → first ≤ last
+in-order lba size some first-is last-is = omega arith
+
 module _ (n lba size : ℕ) where
   pub of-no-bytes : n ≤ 1000 → size ≡ 0 → yields [] ≡ counted n lba size
   unfolding counted touchesOver pageCount touched
   of-no-bytes few none = rw (none, le-ltb 1000 (n + 0) (omega arith))
 
-  module _ (some : size ≡ 0 → ⊥) where
-    has-bytes : eqb size 0 ≡ false
-    has-bytes = ne-eqb size 0 some
+  module _
+      (some : size ≡ 0 → ⊥)
+      {first last : ℕ}
+      (first-is : first ≡ firstPage lba)
+      (last-is : last ≡ lastPage lba size)
+    where
+      has-bytes : eqb size 0 ≡ false
+      has-bytes = ne-eqb size 0 some
 
-    pub of-page-too-large : mostPage < lastPage lba size → wrong pageTooLarge ≡ counted n lba size
-    unfolding counted touchesOver
-    of-page-too-large over = rw (has-bytes, lt-ltb mostPage (lastPage lba size) over)
+      pub of-page-too-large : mostPage < last → wrong pageTooLarge ≡ counted n lba size
+      unfolding counted touchesOver
+      of-page-too-large over = rw (has-bytes, sym last-is, lt-ltb mostPage last over)
 
-    module _ (fits : lastPage lba size ≤ mostPage) where
-      -- How many pages there are.
-      abbrev as-many : ℕ
-      as-many = lastPage lba size - firstPage lba + 1
+      module _ (fits : last ≤ mostPage) where
+        pub of-page-too-many : 1000 < n + (last - first + 1) → wrong tooManyPages ≡ counted n lba size
+        unfolding counted touchesOver pageCount
+        of-page-too-many many =
+            rw (has-bytes, sym last-is, sym first-is, le-ltb mostPage last fits, lt-ltb 1000 _ many)
 
-      pub of-page-too-many : 1000 < n + as-many → wrong tooManyPages ≡ counted n lba size
-      unfolding counted touchesOver pageCount
-      of-page-too-many many =
-          rw (has-bytes, le-ltb mostPage (lastPage lba size) fits, lt-ltb 1000 (n + as-many) many)
-
-      pub of-pages : n + as-many ≤ 1000 → yields (numbersFrom (firstPage lba) as-many) ≡ counted n lba size
-      unfolding counted touchesOver pageCount touched
-      of-pages few = rw (has-bytes, le-ltb mostPage (lastPage lba size) fits, le-ltb 1000 (n + as-many) few)
+        pub of-pages : n + (last - first + 1) ≤ 1000
+            → yields (numbersFrom first (last - first + 1)) ≡ counted n lba size
+        unfolding counted touchesOver pageCount touched
+        of-pages few = rw (has-bytes, sym last-is, sym first-is, le-ltb mostPage last fits, le-ltb 1000 _ few)
 
 -- NUMBERS THAT THE CODE DOES NOT TELL APART
 
@@ -62,8 +68,8 @@ module _ (n lba size : ℕ) where
   -- Beyond, a record with bytes reaches a page that is too large.
   beyond-alike : (size ≡ 0 → ⊥) → beyond < max lba size → Alike
   beyond-alike some large =
-      sym (of-page-too-large n (min beyond lba) (min beyond size) (omega arith) (omega arith))
-      ∙ of-page-too-large n lba size some (omega arith)
+      sym (of-page-too-large n (min beyond lba) (min beyond size) (omega arith) refl refl (omega arith))
+      ∙ of-page-too-large n lba size some refl refl (omega arith)
 
   pub counted-alike : Alike
   counted-alike =

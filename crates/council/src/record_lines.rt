@@ -3,6 +3,7 @@
 ghost use mathlib.Core.Path.{_≡_};
 ghost use Prim.Native.Nat.{_≤_, _<_};
 ghost use lib.ListN.{length};
+ghost use Rattle.traces.specs.Touch.{firstPage, lastPage};
 ghost use Rattle.records.specs.Answers.{beyond};
 ghost use Rattle.council.specs.Answers.{numberOf, Counted, LineRead};
 use records::Record;
@@ -33,6 +34,22 @@ const BLOCK_BYTES: u64 = 512;
 
 const PAGE_BYTES: u64 = 4096;
 
+// The page of the record's first byte.
+fn first_page(lba: u64) -> u64
+    requires { ⌜ lba ≤ beyond ⌝ }
+    ensures { λ r. ⌜ r ≡ firstPage lba ⌝ }
+{
+    BLOCK_BYTES * lba / PAGE_BYTES
+}
+
+// The page of its last byte.
+fn last_page(lba: u64, size: u64) -> u64
+    requires { ⌜ (lba ≤ beyond) × (1 ≤ size) × (size ≤ beyond) ⌝ }
+    ensures { λ r. ⌜ r ≡ lastPage lba size ⌝ }
+{
+    (BLOCK_BYTES * lba + size - 1) / PAGE_BYTES
+}
+
 // A record that counts, with so many pages before it; the next line starts at `next`.
 fn counted(lba: u64, size: u64, before: u32, next: usize) -> Reading
     requires { ⌜ (lba ≤ beyond) × (size ≤ beyond) × (before ≤ 1000) ⌝ }
@@ -41,9 +58,8 @@ fn counted(lba: u64, size: u64, before: u32, next: usize) -> Reading
     if size == 0 {
         return Reading::Pages(0, 0, next);
     }
-    let start = BLOCK_BYTES * lba;
-    let first = start / PAGE_BYTES;
-    let last = (start + size - 1) / PAGE_BYTES;
+    let first = first_page(lba);
+    let last = last_page(lba, size);
     if limits::MOST_PAGE < last {
         return Reading::PageTooLarge;
     }

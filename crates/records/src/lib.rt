@@ -55,16 +55,10 @@ fn is_timestamp(text: &[u8]) -> bool
 fn opcode_of(text: &[u8]) -> Opcode
     ensures { λ r. ⌜ opcodeCase r ≡ opcode (now (text .entry)) ⌝ }
 {
-    if text::equal(text, b"R") {
+    if text::equal(text, b"R") || text::equal(text, b"r") {
         return Opcode::Reads;
     }
-    if text::equal(text, b"r") {
-        return Opcode::Reads;
-    }
-    if text::equal(text, b"W") {
-        return Opcode::Writes;
-    }
-    if text::equal(text, b"w") {
+    if text::equal(text, b"W") || text::equal(text, b"w") {
         return Opcode::Writes;
     }
     Opcode::Unknown

@@ -55,6 +55,7 @@ touches = record {
   size-1 = refl;
   size-4096 = refl;
   size-4097 = refl;
+  two-whole-pages = refl;
   block-7 = refl;
   block-7-and-8 = refl;
   block-8 = refl;

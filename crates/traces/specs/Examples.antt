@@ -58,6 +58,7 @@ pub record Touches : Type 0 where
   pub size-1 : trace 1 "1,8,1,r,0.0\n" ≡ taken (1 ∷ [])
   pub size-4096 : trace 1 "1,8,4096,r,0.0\n" ≡ taken (1 ∷ [])
   pub size-4097 : trace 1 "1,8,4097,r,0.0\n" ≡ taken (1 ∷ 2 ∷ [])
+  pub two-whole-pages : trace 1 "1,8,8192,r,0.0\n" ≡ taken (1 ∷ 2 ∷ [])
   pub block-7 : trace 1 "1,7,512,r,0.0\n" ≡ taken (0 ∷ [])
   pub block-7-and-8 : trace 1 "1,7,513,r,0.0\n" ≡ taken (0 ∷ 1 ∷ [])
   pub block-8 : trace 1 "1,8,512,r,0.0\n" ≡ taken (1 ∷ [])

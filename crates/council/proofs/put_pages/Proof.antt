@@ -1,13 +1,13 @@
 -- After i turns of the loop the first i of the pages are put.
-use mathlib.Core.Path.{_≡_, sym, ap, _∙_}
-use mathlib.Core.List.{[], _∷_}
-use Prim.Native.Nat.{ℕ, _≤_, _+_, _-_}
-use native.Mathlib.Numerals.{add-one}
+use mathlib.Core.Path.{_≡_, sym}
+use mathlib.Core.List.{List}
+use Prim.Native.Nat.{ℕ, _≤_, _<_, _+_, _-_}
 use native.Mathlib.Omega.{arith}
+use lib.ListN.{length, set}
 use borrow.Author.Needs.{needs}
 use Rattle.terms.specs.Choice.{numbersFrom}
 use Rattle.terms.proofs.Rows.{numbers-more}
-use Rattle.result.specs.Put.{PutFits, Put}
+use Rattle.result.specs.Put.{Put}
 use Rattle.result.proofs.Putting.{none-put, stored, both, put-as}
 use Rattle.council.proofs.put_pages.Statement.{statement}
 use Rattle.council.proofs.put_pages.Tie as tie
@@ -19,14 +19,20 @@ Inv-loop pages₀ at first count next₀ i₀ pages next i =
 abbrev μ-loop : tie.MeasureT-loop
 μ-loop pages₀ at first count next₀ i₀ pages next i = count - i
 
+-- One page more behind those that are put, the one that is stored here.
+one-more : (first i page : ℕ) {w at-now : List ℕ} {at next : ℕ} → page ≡ first + i → next < length at-now
+    → Put w at (numbersFrom first i) at-now next → Put w at (numbersFrom first (i + 1)) (set at-now next page) (next + 1)
+one-more first i page is inside put =
+    put-as (numbers-more first i page is) (both put (stored (record { fits = omega arith })))
+
 loop-again : tie.Need-loop-again Inv-loop μ-loop
 loop-again c =
     let v = c .before .loop in
-    let a = c .before .before .args in
-    let room : PutFits (v .pages) (v .next) ((a .first + v .i) ∷ []) =
-    record { fits = omega (arith, v .inv .2 .as-long) } in
-    let more = ap (numbersFrom (a .first)) (add-one (v .i)) ∙ numbers-more (a .first) (v .i) in
-    (omega arith, omega arith, put-as more (both (v .inv .2) (stored room)))
+    let a = c .before .before .args in (
+      omega arith,
+      omega arith,
+      one-more (a .first) (v .i) _ (omega arith) (omega (arith, v .inv .2 .as-long)) (v .inv .2),
+    )
 
 returns : tie.Need-returns Inv-loop μ-loop
 returns c =

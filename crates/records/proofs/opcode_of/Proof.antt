@@ -1,7 +1,8 @@
 -- A text that is one of the letters has that letter's meaning, whatever it was compared with before.
-use mathlib.Core.Path.{_≡_, sym, ap, _∙_}
+use mathlib.Core.Path.{_≡_, refl, sym, ap, _∙_}
 use mathlib.Core.Bool.{Bool, true, false}
 use mathlib.Core.List.{List}
+use mathlib.Core.Logic.{⊎-elim}
 use Prim.Native.Nat.{ℕ}
 use borrow.Author.Needs.{needs}
 use Rattle.terms.specs.Choice.{same}
@@ -23,20 +24,41 @@ no-letter : (s : List ℕ) → same s (bytes "R") ≡ false → same s (bytes "r
     → same s (bytes "w") ≡ false → unknown ≡ opcode s
 no-letter s R r W w = rw (R, r, W, w)
 
+-- The places that are looked back to.
+abbrev at-start : tie.After-equal → tie.Start
+at-start c = c .before .before .before
+
+abbrev after-equal : tie.After-equal3 → tie.After-equal
+after-equal c = c .before .before .before .before .before .before
+
+returns : tie.Need-returns
+returns c =
+    let s = at-start (c .before) .args .text .now in
+    ⊎-elim
+    (λ w. its-letter s (bytes "R") (c .before .equal .ensures) (w .taken) refl)
+    (λ w. its-letter s (bytes "r") (w .2 .ensures) (w .3 .taken) refl)
+    (c .if1 .came)
+
+returns-2 : tie.Need-returns-2
+returns-2 c =
+    let s = at-start (after-equal (c .before)) .args .text .now in
+    ⊎-elim
+    (λ w. its-letter s (bytes "W") (c .before .equal3 .ensures) (w .taken) refl)
+    (λ w. its-letter s (bytes "w") (w .2 .ensures) (w .3 .taken) refl)
+    (c .if3 .came)
+
 pub opcode-of-spec : {M : Type 1} → statement M
 opcode-of-spec =
     tie.close
     (tie.spec
     (λ c. search needs)
     (λ c κs. search needs)
-    (λ c. search its-letter)
     (λ c. search needs)
     (λ c κs. search needs)
-    (λ c. search its-letter)
+    returns
     (λ c. search needs)
     (λ c κs. search needs)
-    (λ c. search its-letter)
     (λ c. search needs)
     (λ c κs. search needs)
-    (λ c. search its-letter)
+    returns-2
     (λ c. search (no-letter, answered)))

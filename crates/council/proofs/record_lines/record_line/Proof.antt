@@ -45,8 +45,8 @@ as-read c =
 returns-2 : tie.Need-returns-2
 returns-2 c =
     let known = c .before .before in
-    line-read (closed (after-end (known .before .before))) _ _ _ (as-read known .does-not-count (c .if1 .taken))
-    (omega arith, omega arith, refl)
+    let none = as-read known .does-not-count (omega (arith, c .if1 .taken)) in
+    line-read (closed (after-end (known .before .before))) _ _ _ none (omega arith, omega arith, refl)
 
 returns-3 : tie.Need-returns-3
 returns-3 c =
