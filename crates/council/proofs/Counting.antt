@@ -1,11 +1,11 @@
 -- A record that counts, by the tests of the code: no bytes, a page too large, a page too many, or its pages.
 -- Numbers that the code does not tell apart come to the same.
-use mathlib.Core.Path.{_≡_, refl, sym, ap, _∙_}
+use mathlib.Core.Path.{_≡_, refl, sym, _∙_}
 use mathlib.Core.Bool.{false}
 use mathlib.Core.List.{[]}
 use Prim.Native.Nat.{ℕ, _+_, _-_, _≤_, _<_, min, max}
 use native.Mathlib.Omega.{arith}
-use lib.Dec.{ltb, eqb, leb}
+use lib.Dec.{eqb, leb}
 use borrow.Author.Tests.{lt-ltb, le-ltb, ne-eqb, eqb-true, eqb-false, leb-true, leb-false}
 use borrow.Table.Steps.{cases}
 use Rattle.terms.specs.Choice.{numbersFrom}

@@ -1,7 +1,7 @@
 -- The trace by the answers of one line after the other: how a count, and a buffer, grow with each.
 use mathlib.Core.Path.{_≡_, refl, sym, ap, subst, _∙_}
 use mathlib.Core.List.{List, [], _∷_, _++_, append-nil, append-assoc}
-use Prim.Native.Nat.{ℕ, suc, _+_, _≤_, _<_}
+use Prim.Native.Nat.{ℕ, suc, _+_, _≤_}
 use native.Mathlib.Omega.{arith}
 use lib.ListN.{drop, length-append, drop-of-length-le}
 use types.Run.{OneOf, miss}

@@ -1,7 +1,7 @@
 -- What the program prints, by the answer of the reader: the page lines, or the two lines of a refusal.
-use mathlib.Core.Path.{_≡_, refl, sym, ap, _∙_}
-use mathlib.Core.List.{List, _++_}
-use Prim.Native.Nat.{ℕ, _*_, _≤_, _<_}
+use mathlib.Core.Path.{_≡_, refl, ap, _∙_}
+use mathlib.Core.List.{List}
+use Prim.Native.Nat.{ℕ, _≤_, _<_}
 use native.Mathlib.Nat.{zero-add}
 use native.Mathlib.Omega.{arith}
 use lib.ListN.{take, drop, length-append}
@@ -12,7 +12,7 @@ use Rattle.terms.specs.Choice.{∣_∣}
 use Rattle.sheets.specs.Result.{refusedSheet}
 use Rattle.sheets.specs.Refusals.{over}
 use Rattle.traces.specs.Trace.{Pages, taken, refusedAt, pagesOf}
-use Rattle.traces.specs.Refusals.{answer, onPages, pageLines, printedPages, printed}
+use Rattle.traces.specs.Refusals.{answer, pageLines, printedPages, printed}
 use Rattle.traces.proofs.Taken.{pages-in-range, refusals-have-numbers}
 use Rattle.result.specs.declared.Written.{Written}
 use Rattle.result.specs.Put.{Put}
@@ -87,8 +87,10 @@ module _ (s : List ℕ) (unit : ℕ) (w out : List ℕ) where
         unfolding printed onWriteText
         refusal-printed {written} {out′} some wrote = go (pagesOf unit s) refl (rw (by-trace s unit w room) at took)
           where
-            go : (ps : Pages) → pagesOf unit s ≡ ps → TakenAs (answer ps w) r w₁ → PagesAnswered s unit w out written w₁ out′
+            go : (ps : Pages) → pagesOf unit s ≡ ps → TakenAs (answer ps w) r w₁
+                → PagesAnswered s unit w out written w₁ out′
             go (taken pages) is h = absurd (some (h .number-is))
             go (refusedAt number line) is h =
                 let says = rw (h .number-is, h .line-is, le-ltb ∣ out ∣ 256 (omega arith)) at wrote in
-                by-text (refusedSheet number line) (ap printedPages is) (says .number-is) (says .count-is) (says .bytes-are)
+                by-text (refusedSheet number line) (ap printedPages is)
+                (says .number-is) (says .count-is) (says .bytes-are)

@@ -1,12 +1,11 @@
 -- A line's answer, by its record as the code knows it; and what the trace from the line on comes to by that answer.
-use mathlib.Core.Path.{_≡_, refl, sym, ap, _∙_}
+use mathlib.Core.Path.{_≡_, refl, ap, _∙_}
 use mathlib.Core.List.{List, []}
 use Prim.Native.Nat.{ℕ, suc, _+_, _-_, _≤_, _<_, _^_, min}
 use native.Mathlib.Omega.{arith}
 use lib.ListN.{take, drop}
-use lib.Dec.{eqb}
 use borrow.Author.Tests.{eq-eqb, ne-eqb}
-use Rattle.terms.specs.Choice.{∣_∣, numbersFrom}
+use Rattle.terms.specs.Choice.{∣_∣}
 use Rattle.terms.specs.Refusals.{noRecord}
 use Rattle.sheets.specs.Lines.{lines}
 use Rattle.traces.specs.Record as Line

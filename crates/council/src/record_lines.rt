@@ -1,5 +1,5 @@
-// Each line of a trace, for one unit. A line's answer is an enum, so that the reader takes it apart where it stands: the
-// pages that it yields and where the next line starts, or which refusal it is.
+// Each line of a trace, for one unit. A line's answer is an enum, so that the reader takes it apart where it stands:
+// the pages that it yields and where the next line starts, or which refusal it is.
 ghost use mathlib.Core.Path.{_≡_};
 ghost use Prim.Native.Nat.{_≤_, _<_};
 ghost use lib.ListN.{length};

@@ -1,6 +1,6 @@
 -- The field at a place of a line, by the place of the first comma from there on; and the record by one field after the
 -- other, where a comma closes the first four.
-use mathlib.Core.Path.{_≡_, refl, ap, _∙_}
+use mathlib.Core.Path.{_≡_, ap, _∙_}
 use mathlib.Core.List.{List}
 use Prim.Native.Nat.{ℕ, _+_, _-_, _≤_, _<_}
 use native.Mathlib.Nat.{sub-zero}
@@ -58,8 +58,8 @@ module _ {s : List ℕ} where
       three-fields h = rw (from-third, h .reads-as)
 
       module _ {c : ℕ} (size : FieldFrom s (b + 1) (Closed c)) where
-        from-fourth : fields s
-            ≡ field (between 0 a s) (field (between (a + 1) b s) (field (between (b + 1) c s) (fields (drop (c + 1) s))))
+        from-fourth : fields s ≡ field (between 0 a s) (field (between (a + 1) b s)
+            (field (between (b + 1) c s) (fields (drop (c + 1) s))))
         from-fourth = rw (from-third, size .reads-as)
 
         pub four-fields : FieldFrom s (c + 1) Last → recordOf s ≡ notInForm

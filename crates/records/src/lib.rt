@@ -7,8 +7,8 @@ ghost use Rattle.traces.specs.Record.{isInteger, isTimestamp, opcode, recordFro
 ghost use Rattle.records.specs.Answers.{FieldFrom, opcodeCase, upToBeyond, askedCase};
 use text::digits;
 
-// No number is told from a larger one from here on: it is no unit's, and an LBA or a size that large reaches a page that
-// is too large.
+// No number is told from a larger one from here on: it is no unit's, and an LBA or a size that large reaches a page
+// that is too large.
 pub const BEYOND: u64 = 35184372088832;
 
 // A read with its unit, its LBA and its size, each at most BEYOND.

@@ -4,18 +4,6 @@ use crate::show;
 // What the lent words hold before a call; no sheet has this page.
 const BEFORE: u32 = 77777;
 
-// The first and the last page and their sum, where there are pages, and whether all later words stayed.
-fn show_pages(pages: &[u32], count: usize) {
-    if count == 0 {
-        show::stayed(b" buffer=", show::all_words(pages, BEFORE));
-    } else if count <= pages.len() {
-        show::named(b" first=", pages[0]);
-        show::named(b" last=", pages[count - 1]);
-        show::named_long(b" sum=", show::sum(&pages[0..count]));
-        show::stayed(b" rest=", show::all_words(&pages[count..], BEFORE));
-    }
-}
-
 fn read(name: &[u8], sheet: &[u8], pages: &mut [u32]) {
     let bid = bid::read(sheet, pages);
     io::write_all(1, name);
@@ -25,7 +13,7 @@ fn read(name: &[u8], sheet: &[u8], pages: &mut [u32]) {
     show::named(b" c=", bid.c);
     show::named(b" cost=", bid.cost);
     show::named(b" count=", bid.count);
-    show_pages(pages, bid.count as usize);
+    show::pages(pages, bid.count as usize, BEFORE);
     io::write_all(1, b"\n");
 }
 

@@ -5,11 +5,11 @@ use result::Outcome;
 use result::Written;
 
 // What the lent bytes hold before a call; no sheet has this byte.
-const BEFORE: u8 = b'#';
+pub const BEFORE: u8 = b'#';
 
 const MOST: u32 = 4294967295;
 
-fn written(mark: &[u8], out: &[u8], w: Written) {
+pub fn written(mark: &[u8], out: &[u8], w: Written) {
     let count = w.count;
     io::write_all(1, mark);
     show::named(b": number=", w.number);

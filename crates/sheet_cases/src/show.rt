@@ -1,4 +1,5 @@
-// What the cases share: a file's bytes, a named number, whether lent memory stayed.
+// What the cases share: a file's bytes, a named number, whether lent memory stayed, the pages that a call put in front
+// of it.
 ghost use Rattle.io.specs.Counts.{Counts};
 
 // Puts the file's bytes at the start of the buffer, and answers how many there are.
@@ -70,4 +71,16 @@ pub fn sum(words: &[u32]) -> u64 {
         i += 1;
     }
     sum
+}
+
+// The first and the last page and their sum, where there are pages, and whether all later words stayed as before.
+pub fn pages(pages: &[u32], count: usize, before: u32) {
+    if count == 0 {
+        stayed(b" buffer=", all_words(pages, before));
+    } else if count <= pages.len() {
+        named(b" first=", pages[0]);
+        named(b" last=", pages[count - 1]);
+        named_long(b" sum=", sum(&pages[0..count]));
+        stayed(b" rest=", all_words(&pages[count..], before));
+    }
 }

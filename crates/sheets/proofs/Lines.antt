@@ -11,29 +11,12 @@ use Rattle.terms.proofs.Choice.{either}
 use Rattle.bytes.specs.Bytes.{indexAfter, indexOf}
 use Rattle.sheets.specs.Lines.{Lines, end, unclosed, line, lineFeed, behind, lines}
 use Rattle.text.proofs.Text.{from-place}
+use Rattle.sheets.proofs.Places.{cut-first}
 use Rattle.sheets.proofs.Pages.{isEnd}
 
--- The line of the first n bytes, and the lines of those behind the one at n.
-abbrev splitAt : ℕ → List ℕ → Lines
-splitAt n s = line (take n s) (lines (drop (n + 1) s))
-
-split-later : (b n : ℕ) (s : List ℕ) → behind b (splitAt n s) ≡ splitAt (suc n) (b ∷ s)
-split-later b n s =
-    let next : suc (n + 1) ≡ suc n + 1 = omega arith in
-    ap (λ (m : ℕ). line (b ∷ take n s) (lines (drop m (b ∷ s)))) next
-
-pub lines-closed : (s : List ℕ) → indexOf lineFeed s < ∣ s ∣ → lines s ≡ splitAt (indexOf lineFeed s) s
-unfolding indexOf indexAfter
-lines-closed [] closed = absurd (omega arith)
-lines-closed (b ∷ s) closed = by-first (eqb b lineFeed) closed (lines-closed s)
-  where
-    n : ℕ
-    n = indexOf lineFeed s
-
-    by-first : (t : Bool) → indexAfter t n < suc ∣ s ∣ → (n < ∣ s ∣ → lines s ≡ splitAt n s)
-        → (if t then line [] (lines s) else behind b (lines s)) ≡ splitAt (indexAfter t n) (b ∷ s)
-    by-first true closed later = refl
-    by-first false closed later = ap (behind b) (later (omega arith)) ∙ split-later b n s
+pub lines-closed : (s : List ℕ) → indexOf lineFeed s < ∣ s ∣
+    → lines s ≡ line (take (indexOf lineFeed s) s) (lines (drop (indexOf lineFeed s + 1) s))
+lines-closed = cut-first lineFeed line behind lines (λ b s. refl) (λ b l rest. refl)
 
 -- Bytes without a line feed: the first is none, and so with the others.
 record NoneIn (b : ℕ) (s : List ℕ) : Type 0 where

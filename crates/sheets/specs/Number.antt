@@ -1,5 +1,5 @@
 -- The form of a number on a sheet, once: whole numbers, and the miss cost with its comma.
--- Whatever reads a number on a sheet cites `digitsForm`; what a digit is, and its worth, is in `Digits` of the crate text.
+-- Whatever reads a number on a sheet cites `digitsForm`; what digits are, and are worth, is in the crate text.
 use mathlib.Core.Bool.{Bool, true, false, not}
 use mathlib.Core.List.{List, [], _∷_}
 use Prim.Native.Nat.{ℕ, _+_, _*_}

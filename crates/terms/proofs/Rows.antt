@@ -17,7 +17,8 @@ numbers-at x (suc n) zero inside = omega arith
 numbers-at x (suc n) (suc i) inside = omega (arith, numbers-at (suc x) n i (omega arith))
 
 pub numbers-more : (x n last : ℕ) → last ≡ x + n → numbersFrom x (n + 1) ≡ numbersFrom x n ++ (last ∷ [])
-numbers-more x n last is = ap (numbersFrom x) (add-one n) ∙ go x n ∙ ap (λ (y : ℕ). numbersFrom x n ++ (y ∷ [])) (sym is)
+numbers-more x n last is =
+    ap (numbersFrom x) (add-one n) ∙ go x n ∙ ap (λ (y : ℕ). numbersFrom x n ++ (y ∷ [])) (sym is)
   where
     go : (x n : ℕ) → numbersFrom x (suc n) ≡ numbersFrom x n ++ ((x + n) ∷ [])
     go x zero = let only : x ≡ x + 0 = omega arith in ap (λ (y : ℕ). y ∷ []) only

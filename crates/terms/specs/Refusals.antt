@@ -1,4 +1,4 @@
--- The refusal numbers of document 01's table and of the requests of 02, by what each says; 0 is that of an accepted call.
+-- The refusal numbers of document 01's table and of 02's requests, by what each says; 0 is that of an accepted call.
 -- When a call is refused, and with what, is said where its outcome is defined.
 use Prim.Native.Nat.{ℕ}
 
@@ -32,7 +32,7 @@ noSuchLine = 8
 abbrev pub notInForm : ℕ
 notInForm = 9
 
--- "10 for a line not in the council's form", "11 for a counted record that touches a page over 4,294,967,295" (request 3)
+-- "10 for a line not in the council's form, 11 for a counted record that touches a page over 4,294,967,295" (request 3)
 abbrev pub noRecord : ℕ
 noRecord = 10
 

@@ -1,5 +1,5 @@
 -- A line's fields by the first comma: the field before it and the fields after it, or one field that none follows.
-use mathlib.Core.Path.{_≡_, refl, sym, ap, _∙_}
+use mathlib.Core.Path.{_≡_, refl, ap, _∙_}
 use mathlib.Core.Bool.{Bool, true, false}
 use mathlib.Core.List.{List, [], _∷_}
 use Prim.Native.Nat.{ℕ, suc, _+_, _<_}
@@ -9,29 +9,12 @@ use lib.Dec.{eqb}
 use Rattle.terms.specs.Choice.{if_then_else_, ∣_∣}
 use Rattle.bytes.specs.Bytes.{indexAfter, indexOf}
 use Rattle.sheets.specs.Number.{comma}
+use Rattle.sheets.proofs.Places.{cut-first}
 use Rattle.traces.specs.Fields.{Fields, field, last, behind, fields, first}
 
--- The field of the first n bytes, and the fields of those behind the one at n.
-abbrev splitAt : ℕ → List ℕ → Fields
-splitAt n s = field (take n s) (fields (drop (n + 1) s))
-
-split-later : (b n : ℕ) (s : List ℕ) → behind b (splitAt n s) ≡ splitAt (suc n) (b ∷ s)
-split-later b n s =
-    let next : suc (n + 1) ≡ suc n + 1 = omega arith in
-    ap (λ (m : ℕ). field (b ∷ take n s) (fields (drop m (b ∷ s)))) next
-
-pub fields-closed : (s : List ℕ) → indexOf comma s < ∣ s ∣ → fields s ≡ splitAt (indexOf comma s) s
-unfolding indexOf indexAfter
-fields-closed [] closed = absurd (omega arith)
-fields-closed (b ∷ s) closed = by-first (eqb b comma) closed (fields-closed s)
-  where
-    n : ℕ
-    n = indexOf comma s
-
-    by-first : (t : Bool) → indexAfter t n < suc ∣ s ∣ → (n < ∣ s ∣ → fields s ≡ splitAt n s)
-        → (if t then field [] (fields s) else behind b (fields s)) ≡ splitAt (indexAfter t n) (b ∷ s)
-    by-first true closed later = refl
-    by-first false closed later = ap (behind b) (later (omega arith)) ∙ split-later b n s
+pub fields-closed : (s : List ℕ) → indexOf comma s < ∣ s ∣
+    → fields s ≡ field (take (indexOf comma s) s) (fields (drop (indexOf comma s + 1) s))
+fields-closed = cut-first comma field behind fields (λ b s. refl) (λ b l rest. refl)
 
 pub fields-last : (s : List ℕ) → indexOf comma s ≡ ∣ s ∣ → fields s ≡ last s
 unfolding indexOf indexAfter

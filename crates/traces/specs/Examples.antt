@@ -1,6 +1,7 @@
--- Traces that a member may ask about, worked out by hand: what each comes to for a unit. A trace is written as its text.
+-- Traces that a member may ask about, worked out by hand: what each comes to for a unit.
+-- A trace is written as its text.
 use mathlib.Core.Path.{_≡_}
-use mathlib.Core.List.{List, [], _∷_}
+use mathlib.Core.List.{[], _∷_}
 use Prim.Native.Nat.{ℕ}
 use Prim.Native.String.{String}
 use Rattle.text.specs.Text.{bytes}

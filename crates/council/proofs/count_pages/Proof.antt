@@ -1,6 +1,6 @@
 -- The pages counted and those of the lines from here on are the pages of the trace.
-use mathlib.Core.Path.{_≡_, ap, _∙_}
-use Prim.Native.Nat.{ℕ, suc, _≤_, _+_, _-_}
+use mathlib.Core.Path.{ap, _∙_}
+use Prim.Native.Nat.{_≤_, _+_, _-_}
 use native.Mathlib.Omega.{arith}
 use lib.ListN.{length}
 use borrow.Author.Needs.{needs}

@@ -26,7 +26,8 @@ put-page-line-requires c κs =
 loop-again : tie.Need-loop-again Inv-loop μ-loop
 loop-again c =
     let put = c .before .before in
-    goes-on (put .before .before .before .before .loop .inv) (omega arith) (small (put .before)) (put .put-page-line .ensures)
+    let l = put .before .before .before .before in
+    goes-on (l .loop .inv) (omega arith) (small (put .before)) (put .put-page-line .ensures)
 
 pub put-page-lines-spec : {M : Type 1} → statement M
 put-page-lines-spec =

@@ -20,8 +20,8 @@ abbrev μ-loop : tie.MeasureT-loop
 μ-loop pages₀ at first count next₀ i₀ pages next i = count - i
 
 -- One page more behind those that are put, the one that is stored here.
-one-more : (first i page : ℕ) {w at-now : List ℕ} {at next : ℕ} → page ≡ first + i → next < length at-now
-    → Put w at (numbersFrom first i) at-now next → Put w at (numbersFrom first (i + 1)) (set at-now next page) (next + 1)
+one-more : (first i page : ℕ) {w w′ : List ℕ} {at next : ℕ} → page ≡ first + i → next < length w′
+    → Put w at (numbersFrom first i) w′ next → Put w at (numbersFrom first (i + 1)) (set w′ next page) (next + 1)
 one-more first i page is inside put =
     put-as (numbers-more first i page is) (both put (stored (record { fits = omega arith })))
 

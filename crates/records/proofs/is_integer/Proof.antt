@@ -1,5 +1,5 @@
 -- One byte at least, and all of them digits.
-use mathlib.Core.Path.{_≡_, _∙_}
+use mathlib.Core.Path.{_∙_}
 use borrow.Author.Needs.{needs}
 use borrow.Author.Tests.{le-leb, lt-leb}
 use Rattle.traces.specs.Record.{isInteger}

@@ -1,4 +1,4 @@
--- What was read before i and the digits from i on come to the value of the whole, which never falls below what was read.
+-- What was read before i and the digits from i on come to the value of the whole, which is never below what was read.
 use mathlib.Core.Path.{_≡_, refl, sym, ap, _∙_}
 use mathlib.Core.Bool.{true}
 use mathlib.Core.List.{List}
