@@ -1,6 +1,5 @@
-// The page numbers of one unit's reads, from a trace in the form of the Storage Performance Council. It is total: any
-// bytes get an answer, and pages are written only when the whole trace is known to be good. What it promises is in
-// specs/Promises.
+// The page numbers of one unit's reads, from a trace of the Storage Performance Council. It is total: any bytes get an
+// answer, and pages are written only when the whole trace is known to be good. What it promises is in specs/Promises.
 ghost use mathlib.Core.Path.{_≡_};
 ghost use Prim.Native.Nat.{_+_, _*_, _≤_};
 ghost use lib.ListN.{length};

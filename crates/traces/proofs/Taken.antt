@@ -16,7 +16,7 @@ use Rattle.sheets.specs.Lines.{Lines, end, unclosed, line, lines}
 use Rattle.traces.specs.Record.{Record, read, write, notInForm, recordOf}
 use Rattle.traces.specs.Touch.{firstPage, lastPage, pageCount, touched, touchesOver}
 use Rattle.traces.specs.Trace.{Reading, yields, wrong, counted, ofRecord, readLine, yielded}
-use Rattle.traces.specs.Trace.{Pages, taken, refusedAt, onto, pagesFrom, pagesOf}
+use Rattle.traces.specs.Trace.{Pages, taken, refusedAt, onto, pagesFrom, tooLong, pagesOf}
 use Rattle.traces.specs.Demands.{PagesInRange, RefusalsHaveNumbers}
 use Rattle.traces.proofs.Touched.{counts-pages}
 
@@ -93,7 +93,7 @@ of-lines unit k n (line l rest) h =
 of-trace : (unit : ℕ) (file : List ℕ) → OfPages 0 (pagesOf unit file)
 unfolding pagesOf
 of-trace unit file =
-    either (OfPages 0) (ltb 16000 ∣ file ∣) (omega arith) (of-lines unit 0 0 (lines file) (omega arith))
+    either (OfPages 0) (tooLong file) (omega arith) (of-lines unit 0 0 (lines file) (omega arith))
 
 pub pages-in-range : PagesInRange
 pages-in-range unit file pages is =

@@ -1,13 +1,16 @@
 -- Every promise about the definitions, each beside the sentence that asks for it; behind it, in brackets, the file of
 -- proofs/ that proves it.
 use mathlib.Core.Path.{_≡_}
-use mathlib.Core.Bool.{true}
+use mathlib.Core.Bool.{Bool, true, false}
 use mathlib.Core.Logic.{_↔_}
 use mathlib.Core.List.{List, [], _++_}
 use Prim.Native.Nat.{ℕ, _+_, _*_, _≤_, _<_}
 use lib.ListN.{getD}
-use Rattle.terms.specs.Choice.{∣_∣, allAtMost}
+use lib.Dec.{eqb}
+use Rattle.terms.specs.Choice.{if_then_else_, ∣_∣, allAtMost}
+use Rattle.sheets.specs.Lines.{Lines, end, unclosed, line, lines}
 use Rattle.sheets.specs.Bid.{Bid, bid, meaning}
+use Rattle.traces.specs.Record.{Record, read, write, notInForm, recordOf}
 use Rattle.traces.specs.Touch.{pageCount, touched, touchesOver}
 use Rattle.traces.specs.Trace.{taken, refusedAt, pagesOf}
 use Rattle.traces.specs.Refusals.{pageLines}
@@ -51,6 +54,40 @@ abbrev pub CountsPages : Type 0
 CountsPages = (lba size : ℕ) → ∣ touched lba size ∣ ≡ pageCount lba size
 
 -- THE PAGES OF A TRACE
+
+-- "the page numbers of the chosen unit's reads, in order", without a thought of refusals
+abbrev pub ofRead : ℕ → Record → List ℕ
+ofRead unit (read of lba size) = if eqb of unit then touched lba size else []
+ofRead unit (write of lba size) = []
+ofRead unit notInForm = []
+
+abbrev pub ofReads : ℕ → Lines → List ℕ
+ofReads unit end = []
+ofReads unit unclosed = []
+ofReads unit (line l rest) = ofRead unit (recordOf l) ++ ofReads unit rest
+
+-- "all lines are judged for their form"
+abbrev pub isRecord : Record → Bool
+isRecord (read of lba size) = true
+isRecord (write of lba size) = true
+isRecord notInForm = false
+
+abbrev pub allRecords : Lines → Bool
+allRecords end = true
+allRecords unclosed = false
+allRecords (line l rest) = if isRecord (recordOf l) then allRecords rest else false
+
+-- A trace is taken where it is short enough, every line is in the form, and the pages are few and small enough, and
+-- nowhere else; and these pages are taken. [Exactly]
+pub record Good (unit : ℕ) (file pages : List ℕ) : Type 0 where
+  pub short : ∣ file ∣ ≤ 16000
+  pub in-form : allRecords (lines file) ≡ true
+  pub pages-are : ofReads unit (lines file) ≡ pages
+  pub few : ∣ pages ∣ ≤ 1000
+  pub small : allAtMost 4294967295 pages ≡ true
+
+abbrev pub TakenExactly : Type 0
+TakenExactly = (unit : ℕ) (file pages : List ℕ) → (pagesOf unit file ≡ taken pages) ↔ Good unit file pages
 
 -- "At most .. 1,000 pages come from one call", and each is at most 4,294,967,295. [Taken]
 pub record InRange (pages : List ℕ) : Type 0 where

@@ -1,5 +1,6 @@
 -- What a trace comes to for one unit: the page numbers of its reads, or a refusal's number with its line.
 -- "from the top 10 .., 11 .., 5 for a page too many": the first line that is wrong decides.
+use mathlib.Core.Bool.{Bool}
 use mathlib.Core.List.{List, [], _++_}
 use Prim.Native.Nat.{ℕ, suc, _+_}
 use lib.Dec.{ltb, eqb}
@@ -54,7 +55,8 @@ pagesFrom unit k n (line l rest) =
     let r = readLine unit n l in onto (suc k) r (pagesFrom unit (suc k) (n + ∣ yielded r ∣) rest)
 
 -- "At most 16,000 bytes .. from one call"
+abbrev pub tooLong : List ℕ → Bool
+tooLong s = ltb mostTraceBytes ∣ s ∣
+
 unfoldable pub pagesOf : ℕ → List ℕ → Pages
-pagesOf unit s =
-    if ltb mostTraceBytes ∣ s ∣ then refusedAt sheetTooLong 0
-    else pagesFrom unit 0 0 (lines s)
+pagesOf unit s = if tooLong s then refusedAt sheetTooLong 0 else pagesFrom unit 0 0 (lines s)

@@ -36,7 +36,7 @@ its c =
 
 -- A read as the code knows it.
 as-read : (c : tie.After-judged) → let found = c .before .before in let a = at-start (after-end found) .args in
-    let given = c .judged .given .0 in ReadAs (a .unit) (a .before) (its found) (given .0) (given .1 .0) (given .1 .1 .0)
+    let r = c .judged .given .0 in ReadAs (a .unit) (a .before) (its found) (r .0) (r .1 .0) (r .1 .1 .0)
 as-read c =
     let found = c .before .before in
     a-read _ _ (omega arith) (its found) (sym (c .judged .given .1) ∙ found .record-of .ensures)
@@ -58,14 +58,16 @@ returns-4 : tie.Need-returns-4
 returns-4 c =
     let found = c .before .before in
     let a = at-start (after-end found) .args in
-    let none = a-write (a .unit) (a .before) (its found) (sym (c .enum-told2 .given .1) ∙ found .record-of .ensures) in
+    let is = sym (c .enum-told2 .given .1) ∙ found .record-of .ensures in
+    let none = a-write (a .unit) (a .before) (its found) is in
     line-read (closed (after-end found)) _ _ _ none (omega arith, omega arith, refl)
 
 returns-5 : tie.Need-returns-5
 returns-5 c =
     let found = c .before .before in
     let a = at-start (after-end found) .args in
-    let none = no-record (a .unit) (a .before) (its found) (sym (c .enum-told3 .given .1) ∙ found .record-of .ensures) in
+    let is = sym (c .enum-told3 .given .1) ∙ found .record-of .ensures in
+    let none = no-record (a .unit) (a .before) (its found) is in
     line-read (closed (after-end found)) _ _ _ none tt
 
 pub record-line-spec : {M : Type 1} → statement M
