@@ -133,7 +133,7 @@ taken-of unit k n (line l rest) pages is =
 
 -- THE TRACE
 
-by-lines : (unit : ℕ) (file : List ℕ) → ∣ file ∣ ≤ 16000 → pagesOf unit file ≡ pagesFrom unit 0 0 (lines file)
+pub by-lines : (unit : ℕ) (file : List ℕ) → ∣ file ∣ ≤ 16000 → pagesOf unit file ≡ pagesFrom unit 0 0 (lines file)
 unfolding pagesOf
 by-lines unit file short =
     cases (tooLong file) (λ long. absurd (omega (arith, ltb-true))) (λ fits. rw fits)

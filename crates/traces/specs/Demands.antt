@@ -12,8 +12,8 @@ use Rattle.sheets.specs.Lines.{Lines, end, unclosed, line, lines}
 use Rattle.sheets.specs.Bid.{Bid, bid, meaning}
 use Rattle.traces.specs.Record.{Record, read, write, notInForm, recordOf}
 use Rattle.traces.specs.Touch.{pageCount, touched, touchesOver}
-use Rattle.traces.specs.Trace.{taken, refusedAt, pagesOf}
-use Rattle.traces.specs.Refusals.{pageLines}
+use Rattle.traces.specs.Trace.{taken, refusedAt, pagesFrom, pagesOf}
+use Rattle.traces.specs.Refusals.{answer, onPages, pageLines}
 
 -- THE PAGES OF A RECORD
 
@@ -101,6 +101,17 @@ PagesInRange = (unit : ℕ) (file pages : List ℕ) → pagesOf unit file ≡ ta
 abbrev pub RefusalsHaveNumbers : Type 0
 RefusalsHaveNumbers = (unit : ℕ) (file : List ℕ) (number line : ℕ) → pagesOf unit file ≡ refusedAt number line
     → 1 ≤ number
+
+-- "6 if the buffer has under 1,000 words, 7, then from the top", "a refused call changes none". [Answered]
+pub record AnsweredInOrder (file : List ℕ) (unit : ℕ) (buffer : List ℕ) : Type 0 where
+  pub first-six : ∣ buffer ∣ < 1000 → onPages file unit buffer ≡ answer (refusedAt 6 0) buffer
+  pub then-seven : 1000 ≤ ∣ buffer ∣ → 16000 < ∣ file ∣ → onPages file unit buffer ≡ answer (refusedAt 7 0) buffer
+  pub then-lines : 1000 ≤ ∣ buffer ∣ → ∣ file ∣ ≤ 16000
+      → onPages file unit buffer ≡ answer (pagesFrom unit 0 0 (lines file)) buffer
+  pub refused-stays : (onPages file unit buffer .number ≡ 0 → ⊥) → onPages file unit buffer .pages ≡ buffer
+
+abbrev pub AllAnsweredInOrder : Type 0
+AllAnsweredInOrder = (file : List ℕ) (unit : ℕ) (buffer : List ℕ) → AnsweredInOrder file unit buffer
 
 -- "so that a sheet can be put together with `cat`": behind the first three lines of a good sheet the page lines are the
 -- sheet's trace, where the sheet is not too long. [PutTogether]

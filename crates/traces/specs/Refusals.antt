@@ -1,5 +1,6 @@
 -- The reader of a trace as a total function: of any bytes, unit and buffer, the answer and the lent words afterwards.
 -- And what the program prints: a line `page=` for each page, or the two lines of a refusal.
+use mathlib.Core.Bool.{Bool}
 use mathlib.Core.List.{List, [], _∷_, _++_}
 use Prim.Native.Nat.{ℕ}
 use lib.Dec.{ltb}
@@ -27,10 +28,12 @@ answer (taken pages) buffer = record {
 answer (refusedAt number line) buffer = record { number = number; line = line; count = 0; pages = buffer }
 
 -- "6 if the buffer has under 1,000 words, 7, then from the top"
+abbrev pub tooShort : List ℕ → Bool
+tooShort buffer = ltb ∣ buffer ∣ mostPages
+
 unfoldable pub onPages : List ℕ → ℕ → List ℕ → Taken
 onPages file unit buffer =
-    if ltb ∣ buffer ∣ mostPages then answer (refusedAt bufferTooShort 0) buffer
-    else answer (pagesOf unit file) buffer
+    if tooShort buffer then answer (refusedAt bufferTooShort 0) buffer else answer (pagesOf unit file) buffer
 
 -- "prints `page=` lines, so that a sheet can be put together with `cat`; a refusal prints the two lines"
 abbrev pub pageLines : List ℕ → List ℕ
