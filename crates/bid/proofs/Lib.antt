@@ -3,7 +3,7 @@
 -- before them (`Reader`); the promise leaves one outcome.
 --
 -- Not here: the cursor (`Cursor` of the crate lines); the page lines as they are defined, and that an accepted bid is
--- in range (`Pages` and `Bids` of the crate sheets); the forms of numbers (its `Digits`).
+-- in range (`Pages` and `Bids` of the crate sheets); the forms of numbers (its `Forms`).
 pub mod Keyed
 pub mod Readings
 pub mod Listing
