@@ -10,7 +10,6 @@ use Rattle.figures.specs.Directory.{Directory, Name, listOf, inCache}
 use Rattle.figures.specs.Words.{decode}
 use Rattle.laws.proofs.Encoding.{decoded}
 use Rattle.engine.specs.declared.Hand.{Hand}
-use Rattle.engine.specs.declared.Evicted.{Evicted}
 use Rattle.engine.specs.Shown.{Makes}
 use Rattle.engine.specs.Heads.{frontOf, headTo}
 use Rattle.engine.specs.Choosing.{Turning, Chosen, EndsFrom}
@@ -20,13 +19,13 @@ use Rattle.entries.specs.Flags.{Says, Becomes}
 use Rattle.entries.specs.Leaves.{HeadMoved}
 use Rattle.entries.specs.Stretches.{nameOf, startOf}
 use Rattle.entries.proofs.Heads.{page-read, flags-read, head-moved}
+use Rattle.car.specs.Looking.{GoesOn}
 use Rattle.car.proofs.Heads.{has-head, some-length, history-name, list-word}
 
--- Words L that may be looked at again, with a set bit less than w, and from which the repeat goes on.
-pub record Again (w : List ℕ) (k : Hand) (L : List ℕ) : Type 0 where
-  pub turning : Turning Holds L (turnedOnce k)
+-- A set bit was found: from the words L the repeat goes on, with a set bit less than in w.
+pub record Turned (w : List ℕ) (k : Hand) (L : List ℕ) : Type 0 where
+  pub on : GoesOn w k L (turnedOnce k)
   pub fewer : inCache bits (decode L) < inCache bits (decode w)
-  pub rest : {r : Evicted} {W : List ℕ} → EndsFrom Holds L (turnedOnce k) r W → EndsFrom Holds w k r W
 
 -- The head of list i stands at word `at`; its flags say whether its bit is set.
 module _ {w : List ℕ} {k : Hand} {i at : ℕ} (t : Turning Holds w k) (known : i ≤ 1) (choice : Chosen Holds (nameOf i) w)
@@ -38,17 +37,16 @@ module _ {w : List ℕ} {k : Hand} {i at : ℕ} (t : Turning Holds w k) (known :
   bit-read d is = says (frontOf (listOf (nameOf i) d)) (flags-read (omega arith) some start d is)
 
   pub look-again : {f : ℕ} {L : List ℕ} → bit ≡ true → Becomes cleared (getD w (at + 1) 0) f → HeadMoved i 1 f w L
-      → Again w k L
+      → Turned w k L
   look-again is becomes moved =
       let set : (d : Directory) → Holds d w → frontOf (listOf (nameOf i) d) .bit ≡ true =
       λ d shown. sym (bit-read d shown) ∙ is in
       let turned = head-moved (omega arith) some start 1 cleared (λ e. refl) becomes moved in
-      let on = turns-on t (nameOf i) choice (has-head t i choice) set turned in
+      let again = turns-on t (nameOf i) choice (has-head t i choice) set turned in
       let less = fewer-bits t (nameOf i) choice (has-head t i choice) set turned in
       record {
-        turning = on;
-        fewer = rw (decoded (on .dir) (on .shown), decoded (t .dir) (t .shown)) less;
-        rest = goes-on t (nameOf i) choice (has-head t i choice) set turned;
+        on = record { turning = again; rest = goes-on t (nameOf i) choice (has-head t i choice) set turned };
+        fewer = rw (decoded (again .dir) (again .shown), decoded (t .dir) (t .shown)) less;
       }
 
   pub look-stops : {f : ℕ} {L : List ℕ} → bit ≡ false → Becomes demoted (getD w (at + 1) 0) f

@@ -1,4 +1,4 @@
--- A look at a set bit turns the head, and the repeat goes on as the choice ensures; one at a clear bit is its last.
+-- A look at a set bit turns the head, and the looks go on as the choice ensures; one at a clear bit is the last.
 -- The measure is twice the set bits, and one more at the choice.
 use borrow.Author.Needs.{needs}
 use Prim.Native.Nat.{ℕ, _+_, _*_, _≤_, _<_}
@@ -17,7 +17,8 @@ use Rattle.entries.proofs.lists.start_of.Reads as start-of-reads
 use Rattle.entries.proofs.targets.t1_at_target.Reads as t1-at-target-reads
 use Rattle.entries.proofs.Heads.{head-inside}
 use Rattle.car.proofs.Heads.{room, some-length, chosen-by}
-use Rattle.car.proofs.Looks.{Again, look-again, look-stops}
+use Rattle.car.proofs.Looks.{Turned, look-again, look-stops}
+use Rattle.car.proofs.Looking.{goes-on-here, looks-after}
 use Rattle.car.proofs.choose.Reads as choose
 use Rattle.car.proofs.choose.Kinds as choose-kinds
 use Rattle.car.proofs.+choose+look.Lts-choose as choose-lts
@@ -68,22 +69,26 @@ look-calls t = (
 -- CHOOSE
 
 module _ (t : ℕ) where
+  -- No look is left.
+  choose-returns : choose-lts.Need-returns (choose-calls t) (choose-at t) choose.Post
+  choose-returns c = (search goes-on-here, omega arith)
+
   choose-t1-at-target-requires : choose-lts.Need-t1-at-target-requires (choose-calls t) (choose-at t) choose.Post
-  choose-t1-at-target-requires c κs = omega (arith, c .before .before .pre .1 .0)
+  choose-t1-at-target-requires c κs = omega (arith, c .before .before .before .pre .1 .0)
 
   choose-look-requires : choose-lts.Need-look-requires (choose-calls t) (choose-at t) choose.Post
   choose-look-requires c κs =
       let tested = c .before .before in
-      let start = tested .before .before .before in
-      let is-chosen = chosen-by (tested .t1-at-target .ensures) (c .before .if1 .taken) in
-      (omega (arith, start .pre .0), (start .pre .1 .0, (start .pre .1 .1, (omega arith, is-chosen))))
+      let start = tested .before .before .before .before in
+      let is-chosen = chosen-by (tested .t1-at-target .ensures) (c .before .if2 .taken) in
+      (omega (arith, start .pre .0), (start .pre .1 .0, (start .pre .1 .1, ((omega arith, is-chosen), omega arith))))
 
   choose-look-requires-2 : choose-lts.Need-look-requires-2 (choose-calls t) (choose-at t) choose.Post
   choose-look-requires-2 c κs =
       let tested = c .before .before in
-      let start = tested .before .before .before in
-      let is-chosen = chosen-by (tested .t1-at-target .ensures) (c .before .if1 .left) in
-      (omega (arith, start .pre .0), (start .pre .1 .0, (start .pre .1 .1, (omega arith, is-chosen))))
+      let start = tested .before .before .before .before in
+      let is-chosen = chosen-by (tested .t1-at-target .ensures) (c .before .if2 .left) in
+      (omega (arith, start .pre .0), (start .pre .1 .0, (start .pre .1 .1, ((omega arith, is-chosen), omega arith))))
 
 -- LOOK
 
@@ -112,7 +117,7 @@ module _ (t : ℕ) where
   -- The chosen clock has a head,
   head-there : (c : look-lts.Start (look-calls t) (look-at t) look.Post)
       → 1 ≤ getD (c .args .dir .now) (4 + c .args .i) 0
-  head-there c = let p = c .pre .1 .1 in some-length (p .0) (c .args .i) (p .1 .1) (p .1 .0)
+  head-there c = let p = c .pre .1 .1 in some-length (p .0) (c .args .i) (p .1 .0 .1) (p .1 .0 .0)
 
   -- whose two words are there.
   within : (c : look-lts.After-start-of (look-calls t) (look-at t) look.Post)
@@ -153,20 +158,20 @@ module _ (t : ℕ) where
   -- A head whose bit is set has moved to T2's tail.
   looked : (c : look-lts.After-move-head (look-calls t) (look-at t) look.Post)
       → let a = at-start (after-start-of (bit-set (c .before))) .args in
-      Again (a .dir .now) (a .hand) (c .move-head .last .0)
+      Turned (a .dir .now) (a .hand) (c .move-head .last .0)
   looked c =
       let b = bit-set (c .before) in
       let o = after-start-of b in
       let p = at-start o .pre .1 .1 in
-      look-again (p .0) (p .1 .0) (p .1 .1) (o .start-of .ensures) (b .bit .result) (b .bit .ensures)
+      look-again (p .0) (p .1 .0 .0) (p .1 .0 .1) (o .start-of .ensures) (b .bit .result) (b .bit .ensures)
       (c .before .before .before .if1 .taken) (c .before .cleared .ensures) (c .move-head .ensures)
 
   look-choose-requires : look-lts.Need-choose-requires (look-calls t) (look-at t) look.Post
   look-choose-requires c κs =
       let m = after-move-head (c .before) in
       let s = at-start (after-start-of (bit-set (m .before))) in
-      let again = looked m in
-      (omega (arith, s .pre .0, again .fewer), (room (again .turning), again .turning))
+      let turned = looked m in
+      (omega (arith, s .pre .0, turned .fewer), (room (turned .on .turning), turned .on .turning))
 
   look-move-head-requires-2 : look-lts.Need-move-head-requires-2 (look-calls t) (look-at t) look.Post
   look-move-head-requires-2 c κs =
@@ -175,22 +180,27 @@ module _ (t : ℕ) where
 
   look-returns : look-lts.Need-returns (look-calls t) (look-at t) look.Post
   look-returns c =
-      let called = c .before .before in
-      looked (after-move-head (called .before .before)) .rest (called .choose .ensures)
+      let called = c .before .before .choose in
+      let m = after-move-head (c .before .before .before .before) in
+      let s = at-start (after-start-of (bit-set (m .before))) in
+      looks-after (s .pre .1 .1 .1 .1) (looked m .on) (called .result) (called .last .0) (called .ensures)
 
   look-returns-2 : look-lts.Need-returns-2 (look-calls t) (look-at t) look.Post
   look-returns-2 c =
       let m = c .before .before in
       let b = bit-clear (m .before) in
       let o = after-start-of b in
-      let p = at-start o .pre .1 .1 in
-      look-stops (p .0) (p .1 .0) (p .1 .1) (o .start-of .ensures) (b .bit .result) (b .bit .ensures)
-      (m .before .before .before .if1 .left) (m .before .demoted .ensures) (m .move-head2 .ensures)
+      let p = at-start o .pre .1 .1 in (
+        look-stops (p .0) (p .1 .0 .0) (p .1 .0 .1) (o .start-of .ensures) (b .bit .result) (b .bit .ensures)
+            (m .before .before .before .if1 .left) (m .before .demoted .ensures) (m .move-head2 .ensures),
+        omega (arith, p .1 .1),
+      )
 
 pub +choose+look-spec : {M : Type 1} → statement M
 +choose+look-spec =
     close μ-choose μ-look
     (λ t. choose-lts.spec (choose-calls t) (choose-at t) choose.Post
+    (choose-returns t)
     (choose-t1-at-target-requires t)
     (choose-look-requires t)
     (choose-look-requires-2 t)
@@ -210,6 +220,7 @@ pub +choose+look-spec : {M : Type 1} → statement M
     (λ c κs. search needs)
     (look-move-head-requires t)
     (look-add-cleared t)
+    (λ c. search needs)
     (look-choose-requires t)
     (λ c. search needs)
     (λ c κs. search needs)
