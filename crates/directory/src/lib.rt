@@ -20,7 +20,8 @@ use terms::limits;
 use terms::policies;
 use terms::refusals;
 
-// A request's answer; zeros beside the number of a refusal.
+// A request's answer; zeros beside the number of a refusal. Laid out as C has it, as Ran is: exports hands them to C.
+#[repr(C)]
 pub struct Answer {
     pub number: u32,
     pub kind: u32,
@@ -167,6 +168,7 @@ pub fn request(dir: &mut [u32], page: u32) -> Answer
 }
 
 // A run's answer; a tally of zeros beside the number of a refusal.
+#[repr(C)]
 pub struct Ran {
     pub number: u32,
     pub tally: tally::Tally,

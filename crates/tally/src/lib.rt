@@ -5,6 +5,8 @@ ghost use Prim.Native.Nat.{_≤_};
 ghost use Rattle.tally.specs.Note.{notedOf, Small};
 use engine::kinds;
 
+// Laid out as C has it: exports hands it to C.
+#[repr(C)]
 pub struct Tally {
     pub requests: u32,
     pub hits: u32,
