@@ -13,7 +13,7 @@ static void store_words(const u32 *state, u32 *dir, usize n) {
 }
 
 const struct engine engines[ENGINES] = {
-    [OURS] = { "Zwirotek", zwirotek_fresh, zwirotek_check, zwirotek_request, zwirotek_run, load_words, store_words },
+    [OURS] = { "Zwirotek", replay_fresh, replay_check, ours_request, ours_run, load_words, store_words },
     [PLAIN] = { "plain C", plain_fresh, plain_check, plain_request, plain_run, load_words, store_words },
     [HASHED] = { "hashed C", hashed_fresh, hashed_check, hashed_request, hashed_run, hashed_load, hashed_store },
 };

@@ -1,7 +1,10 @@
-// What each engine offers, and the numbers of document 01. Ours is Zwirotek's library; plain and hashed are C.
+// What each engine offers, and the numbers of document 01. Ours is Zwirotek's library, over c/replay.h; plain and
+// hashed are C.
 // No C library headers for x86-64 are at hand, so what is used of the C library is declared where it is used.
 #ifndef ENGINES_H
 #define ENGINES_H
+
+#include "../c/replay.h"
 
 typedef unsigned int u32;
 typedef unsigned long u64;
@@ -38,11 +41,9 @@ static inline usize words_of(u32 c) {
     return HEADER + 2 * ENTRY * (usize)c;
 }
 
-// (r) ours
-u32 zwirotek_fresh(u32 policy, u32 c, u32 *dir, usize n);
-u32 zwirotek_check(const u32 *dir, usize n);
-u32 zwirotek_request(u32 *dir, usize n, u32 page, u32 *answer);
-u32 zwirotek_run(u32 *dir, usize n, const u32 *trace, usize t, u32 *answers, usize m, u32 *tally);
+// (r) ours, answers and tallies as words; fresh and check are those of replay.h
+u32 ours_request(u32 *dir, usize n, u32 page, u32 *answer);
+u32 ours_run(u32 *dir, usize n, const u32 *trace, usize t, u32 *answers, usize m, u32 *tally);
 
 // (a) plain C on the same words
 u32 plain_fresh(u32 policy, u32 c, u32 *dir, usize n);
