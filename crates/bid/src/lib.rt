@@ -1,5 +1,7 @@
 // The bid sheet's reader. It is total: any bytes get an answer, and pages are written only when the whole sheet is
 // known to be good. What it promises is in specs/Promises.
+#![tactic(auto)]
+
 ghost use Rattle.std.specs.Prelude.{◌≡◌, ◌≤◌, length, drop};
 ghost use Rattle.sheets.specs.Number.{means};
 ghost use Rattle.sheets.specs.Lines.{lines};

@@ -1,5 +1,7 @@
 // CAR, Figure 2, in lent words: evict by choosing a clock and looking at its head, then trim and place.
 // The choice leads to a look, and a look at a set bit back to the choice, so many times at most; the set bits fall.
+#![tactic(auto)]
+
 ghost use Rattle.std.specs.Prelude.{◌+◌, ◌≤◌};
 ghost use Rattle.terms.specs.Policies.{car};
 ghost use Rattle.figures.specs.Words.{decode, size, n_t1, n_b1};

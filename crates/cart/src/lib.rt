@@ -1,5 +1,7 @@
 // CART, Figure 3, in lent words: evict by its two passes and the demotion, then trim and place.
 // n_S and n_L are counted once and then kept as the figure keeps them.
+#![tactic(auto)]
+
 ghost use Rattle.std.specs.Prelude.{◌≡◌, true, false, ◌+◌, ◌-◌, ◌*◌, ◌≤◌, length, get_or};
 ghost use Rattle.terms.specs.Policies.{cart};
 ghost use Rattle.figures.specs.Entry.{Entry};

@@ -1,5 +1,7 @@
 // The cases through the code: P1 to P12, FIFO, CLOCK and LRU, the limits, each soundness rule broken by itself, and the
 // pages 0 and 4,294,967,295. It prints what each call gave, and the gate compares that with the file stdout.
+#![tactic(auto)]
+
 
 fn space_and(n: u32) {
     io::write_all(1, b" ");

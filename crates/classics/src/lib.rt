@@ -1,5 +1,7 @@
 // FIFO, CLOCK and LRU in lent words: T1 alone, a queue whose head is evicted and forgotten.
 // One evict part serves the three, CLOCK's: where no bit is set, as under FIFO and LRU, it forgets the head at once.
+#![tactic(auto)]
+
 ghost use Rattle.std.specs.Prelude.{◌<◌};
 ghost use Rattle.figures.specs.Words.{decode, n_t1};
 ghost use Rattle.figures.specs.Classics.{clock_evict};

@@ -1,5 +1,7 @@
 // The copy of a sheet that was filed before a blank policy meant cart: it says `car` where that one is blank.
 // Both public functions are total; what they promise is in specs/Promises.
+#![tactic(auto)]
+
 ghost use Rattle.std.specs.Prelude.{◌≡◌};
 ghost use Rattle.sheets.specs.Copy.{with_car};
 ghost use Rattle.result.specs.Put.{Put};

@@ -1,5 +1,7 @@
 // The page numbers of one unit's reads, from a trace of the Storage Performance Council. It is total: any bytes get an
 // answer, and pages are written only when the whole trace is known to be good. What it promises is in specs/Promises.
+#![tactic(auto)]
+
 ghost use Rattle.std.specs.Prelude.{◌≡◌, ◌+◌, ◌*◌, ◌≤◌, length};
 ghost use Rattle.terms.specs.Choice.{numbers_from};
 ghost use Rattle.text.specs.Text.{bytes};

@@ -1,5 +1,7 @@
 // "All listed pages differ": from the last entry to the first, each page is looked for behind it.
 // Only a page that may have been seen is searched for, so that nearly all cost the same, however long the lists are.
+#![tactic(auto)]
+
 ghost use Rattle.std.specs.Prelude.{◌≡◌, ◌+◌, ◌*◌, ◌≤◌, ◌<◌, length};
 ghost use Rattle.figures.specs.Entry.{differ};
 ghost use Rattle.entries.specs.Leaves.{OfEntries};

@@ -1,5 +1,7 @@
 // The public operations on a directory in lent words. Each is total: whatever is lent gets an answer, a refusal its
 // number, and a refused call changes no lent word. What each promises is in specs/Promises.
+#![tactic(auto)]
+
 ghost use Rattle.std.specs.Prelude.{◌≡◌, ◌+◌, ◌*◌, ◌≤◌, ◌<◌, ◌∷◌, ◌++◌, length, take, drop, replicate};
 ghost use Rattle.figures.specs.Words.{decode, size, n_t1, n_t2};
 ghost use Rattle.figures.specs.Request.{request};

@@ -1,5 +1,7 @@
 // What every engine answers: what the hand has counted, the evicted page, a request's answer.
 // What lent memory shows of a directory, whatever an engine keeps it in, is a parameter of specs/Shown.
+#![tactic(auto)]
+
 ghost use Rattle.std.specs.Prelude.{◌≡◌};
 ghost use Rattle.engine.specs.Shown.{served_of};
 

@@ -1,5 +1,7 @@
 // The lists of a directory in lent words: leaves that the rules of every policy are made of.
 // Nothing is copied out: a move turns one stretch of words in place and holds one entry.
+#![tactic(auto)]
+
 pub mod amounts;
 pub mod flags;
 pub mod header;

@@ -1,5 +1,7 @@
 // The directory's public operations for a program in C, such as a controller's firmware: c/replay.h declares them.
 // A slice is a pointer and a length, an answer a struct by value. Nothing is decided here.
+#![tactic(auto)]
+
 ghost use Rattle.directory.specs.Promises.{Freshened, Checked, Requested, Replayed};
 
 #[unsafe(no_mangle)]

@@ -1,5 +1,7 @@
 // A sheet's lines, read from the front: a cursor over the sheet, and the look-up by line number.
 // Every function takes any bytes; the look-up hands back a part of the caller's own slice.
+#![tactic(auto)]
+
 ghost use Rattle.std.specs.Prelude.{◌≡◌, ◌-◌, ◌≤◌, length, take, drop};
 ghost use Rattle.sheets.specs.LookUp.{value_in};
 ghost use Rattle.sheets.specs.Refusals.{found_at, on_look_up};

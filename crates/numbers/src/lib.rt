@@ -1,5 +1,7 @@
 // The numbers on a sheet: whole ones, and the miss cost with its comma.
 // Both functions take any bytes; a number's form is the sheets' definition of it.
+#![tactic(auto)]
+
 ghost use Rattle.std.specs.Prelude.{◌≡◌, true, ◌+◌, ◌*◌, ◌≤◌, length};
 ghost use Rattle.text.specs.Digits.{all_digits, value as Digits·value};
 ghost use Rattle.sheets.specs.Number.{digits_form, whole as Number·whole, miss_cost};

@@ -1,5 +1,7 @@
 // The public operations on calls from standard input; standard output gets what each gave, in words of four bytes.
 // It ends with the input or after 100,000 calls; at a call that it cannot read it says so and fails.
+#![tactic(auto)]
+
 mod directory_calls;
 mod sheet_calls;
 mod trace_calls;

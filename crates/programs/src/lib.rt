@@ -1,6 +1,8 @@
 // The programs score, ledger and copy: a bid sheet from standard input; to standard output its result sheet, for the
 // ledger also a line for each request, or its copy; or two lines of a refusal. And spc: a trace in the council's form,
 // and the page lines of one unit. What is printed is proved in scoring, copying and council.
+#![tactic(auto)]
+
 ghost use Rattle.std.specs.Prelude.{◌≤◌, length};
 
 // Spc has the unit whose pages it lists.

@@ -1,5 +1,7 @@
 // A line of a council's trace, by its fields. Its answer is an enum, so that the reader takes it apart where it stands:
 // a read with its numbers, a write, or a line that is not in the form. Every line gets one.
+#![tactic(auto)]
+
 ghost use Rattle.std.specs.Prelude.{◌≡◌, ◌≤◌, length};
 ghost use Rattle.traces.specs.Record.{is_integer, is_timestamp, opcode, record_from, record_of, asked};
 ghost use Rattle.records.specs.Answers.{FieldFrom, opcode_case, up_to_beyond, asked_case};

@@ -1,5 +1,7 @@
 // The result sheet's writer: any numbers, into lent bytes; bytes past the sheet's end stay.
 // Every writer is total: refusals 1 and 6. What it promises is in specs/Promises.
+#![tactic(auto)]
+
 ghost use Rattle.std.specs.Prelude.{◌≡◌, [], ◌∷◌, ◌++◌};
 ghost use Rattle.terms.specs.Policies.{policy_name};
 ghost use Rattle.text.specs.Text.{bytes};

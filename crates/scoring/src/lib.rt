@@ -1,5 +1,7 @@
 // What the programs score and ledger do between standard input and output, in memory that they lend.
 // What a sheet comes to is specs/Scored; score and ledger are total, and what they promise is in specs/Promises.
+#![tactic(auto)]
+
 ghost use Rattle.std.specs.Prelude.{◌≡◌, ◌*◌};
 ghost use Rattle.result.specs.Put.{Put};
 ghost use Rattle.scoring.specs.Scored.{scored, ledgered, ledger_lines};

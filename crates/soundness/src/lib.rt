@@ -1,5 +1,7 @@
 // "A directory is sound when", in words whose number, policy and size are in order, which directory::check sees to.
 // Sizes come first: what is read after them is where it should be.
+#![tactic(auto)]
+
 ghost use Rattle.std.specs.Prelude.{◌≡◌, get_or};
 ghost use Rattle.figures.specs.Car.{car_sound};
 ghost use Rattle.figures.specs.Cart.{cart_sound};

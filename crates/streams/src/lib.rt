@@ -1,5 +1,7 @@
 // What every program here reads and writes by: read whole and written whole, or said why not, in one line on standard
 // error. The program that is told of a failure prints nothing more and ends with a status that is not 0.
+#![tactic(auto)]
+
 ghost use Rattle.std.specs.Prelude.{◌≡◌, ◌≤◌, length};
 ghost use Rattle.libc.specs.Io.{Moved};
 ghost use Rattle.streams.specs.Reads.{ReadTells, ReadAt, Handed};

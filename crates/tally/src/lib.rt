@@ -1,5 +1,7 @@
 // The running tally of a run: a by-value core, and a thin function that a tally is lent to.
 // `counted` lends a tally of its own, so that a loop over it needs no walk by hand.
+#![tactic(auto)]
+
 ghost use Rattle.std.specs.Prelude.{◌≡◌, ◌≤◌};
 ghost use Rattle.tally.specs.Note.{noted_of, Small};
 

@@ -1,5 +1,7 @@
 // Bytes compared: a key in front of them, two texts the same; and digits.
 // Every function here takes any bytes.
+#![tactic(auto)]
+
 ghost use Rattle.std.specs.Prelude.{◌≡◌};
 ghost use Rattle.terms.specs.Choice.{same};
 ghost use Rattle.text.specs.Text.{starts};
