@@ -10,7 +10,7 @@ use lib.Dec.{ltb}
 use borrow.Author.Tests.{lt-ltb, le-ltb, ltb-true, ltb-false}
 use Rattle.terms.specs.Choice.{∣◌∣}
 use Rattle.terms.proofs.Choice.{by_test}
-use Rattle.bytes.specs.Bytes.{index_of}
+use Rattle.text.specs.Bytes.{index_of}
 use Rattle.sheets.specs.Lines.{end, unclosed, line, line_feed, lines}
 use Rattle.sheets.proofs.Places.{place_at_most}
 use Rattle.sheets.proofs.Lines.{lines_closed, lines_unclosed}

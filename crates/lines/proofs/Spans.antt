@@ -7,7 +7,7 @@ use lib.ListN.{take, drop}
 use borrow.Author.Tests.{lt-ltb, le-ltb}
 use Rattle.terms.specs.Choice.{∣◌∣}
 use Rattle.terms.specs.Refusals.{accepted, sheet_too_long, no_such_line}
-use Rattle.bytes.specs.Bytes.{index_of}
+use Rattle.text.specs.Bytes.{index_of}
 use Rattle.text.proofs.Text.{part_length}
 use Rattle.sheets.specs.Lines.{lines}
 use Rattle.sheets.specs.LookUp.{Place, between, nowhere, equals_sign, value_in, value_of}

@@ -2,7 +2,7 @@
 -- The look-up's spans: number and places as the definition has them, and the places within the sheet.
 use Rattle.std.specs.Prelude.{◌≡◌, List, ℕ, ◌+◌, ◌≤◌, drop, ltb}
 use Rattle.terms.specs.Choice.{if◌then◌else◌, ∣◌∣}
-use Rattle.bytes.specs.Bytes.{index_of}
+use Rattle.text.specs.Bytes.{index_of}
 use Rattle.sheets.specs.Lines.{line_feed}
 use Rattle.sheets.specs.Refusals.{Found}
 use Rattle.lines.specs.declared.Span.{Span}

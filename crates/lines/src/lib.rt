@@ -46,7 +46,7 @@ fn line_from(sheet: &[u8], at: usize) -> Line
     if sheet.len() <= at {
         return Line::Missing;
     }
-    let end = bytes::scan::find(sheet, at, sheet.len(), b'\n');
+    let end = text::scan::find(sheet, at, sheet.len(), b'\n');
     if end < sheet.len() {
         Line::Closed(end)
     } else {
@@ -85,7 +85,7 @@ fn value_in(sheet: &[u8], at: usize, end: usize) -> Span
     ensures { SpanOf sheet.now
         (found_at (value_in at (take (end - at) (drop at sheet.now)))) result }
 {
-    let equals = bytes::scan::find(sheet, at, end, b'=');
+    let equals = text::scan::find(sheet, at, end, b'=');
     if equals < end {
         Span {
             number: refusals::ACCEPTED,

@@ -60,7 +60,7 @@ fn thousandths(before: &[u8], after: &[u8]) -> u32
 pub fn miss_cost(text: &[u8]) -> Number
     ensures { meant result ≡ miss_cost text.now }
 {
-    let n = bytes::scan::find(text, 0, text.len(), b',');
+    let n = text::scan::find(text, 0, text.len(), b',');
     if text.len() != n + 4 {
         return Number::NotInForm;
     }

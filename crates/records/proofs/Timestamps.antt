@@ -8,7 +8,7 @@ use lib.ListN.{take, drop, length-drop, drop_of_length-le}
 use lib.Seq.{take_all}
 use Rattle.terms.specs.Choice.{if◌then◌else◌, ∣◌∣}
 use Rattle.terms.proofs.Choice.{either}
-use Rattle.bytes.specs.Bytes.{index_of}
+use Rattle.text.specs.Bytes.{index_of}
 use Rattle.traces.specs.Record.{is_integer, point, before_point, after_point, is_timestamp}
 
 module _ (s : List ℕ) (n : ℕ) (place : n ≡ index_of point s) where

@@ -50,7 +50,7 @@ fn is_integer(text: &[u8]) -> bool
 fn is_timestamp(text: &[u8]) -> bool
     ensures { result ≡ is_timestamp text.now }
 {
-    let n = bytes::scan::find(text, 0, text.len(), b'.');
+    let n = text::scan::find(text, 0, text.len(), b'.');
     if n == text.len() {
         return false;
     }
@@ -73,7 +73,7 @@ fn field_from(line: &[u8], at: usize) -> Field
     requires { at ≤ length line.now }
     ensures { FieldFrom line.now at result }
 {
-    let end = bytes::scan::find(line, at, line.len(), b',');
+    let end = text::scan::find(line, at, line.len(), b',');
     if end < line.len() {
         Field::Closed(end)
     } else {
@@ -117,7 +117,7 @@ pub fn record_of(line: &[u8]) -> Record
     let Field::Closed(letter_end) = field_from(line, size_end + 1) else {
         return Record::NotInForm;
     };
-    let end = bytes::scan::find(line, letter_end + 1, line.len(), b',');
+    let end = text::scan::find(line, letter_end + 1, line.len(), b',');
     record_from(
         &line[..unit_end],
         &line[unit_end + 1..lba_end],

@@ -5,7 +5,7 @@ use Rattle.figures.specs.Hand.{repeat}
 use Rattle.figures.specs.Car as Car
 use Rattle.figures.specs.Request.{missed, serve}
 use Rattle.figures.specs.Run.{run_from}
-use Rattle.bytes.specs.Bytes.{index_of}
+use Rattle.text.specs.Bytes.{index_of}
 use Rattle.sheets.specs.Number.{digits_form, whole, miss_cost}
 use Rattle.sheets.specs.Bid.{policy_line, size_line, cost_line, page_line, in_order, meaning_where}
 use Rattle.sheets.specs.Result.{decimal, milliseconds, result_sheet}

@@ -1,6 +1,6 @@
 -- The worked examples hold, each by computation.
 use mathlib.Core.Path.{refl}
-use Rattle.bytes.specs.Bytes.{index_of}
+use Rattle.text.specs.Bytes.{index_of}
 use Rattle.sheets.specs.Number.{whole, miss_cost, digits_form}
 use Rattle.sheets.specs.Bid.{policy_line, size_line, cost_line, page_line, in_order, meaning_where}
 use Rattle.sheets.specs.Result.{decimal, milliseconds, result_sheet, refused_sheet}

@@ -11,7 +11,7 @@ use Rattle.terms.specs.Choice.{if◌then◌else◌, ∣◌∣}
 use Rattle.terms.specs.Refusals.{not_in_form}
 use Rattle.terms.proofs.Choice.{by_test, either}
 use Rattle.terms.proofs.Tests.{reads}
-use Rattle.bytes.specs.Bytes.{index_of}
+use Rattle.text.specs.Bytes.{index_of}
 use Rattle.text.specs.Digits.{all_digits, value}
 use Rattle.sheets.specs.Number.{means, wrong, comma}
 use Rattle.sheets.specs.Number.{no_leading_zero, digits_form, whole, before_comma, after_comma, cost_form, miss_cost}

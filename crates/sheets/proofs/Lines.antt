@@ -8,7 +8,7 @@ use lib.ListN.{get_or, take, drop}
 use lib.Dec.{eqb}
 use Rattle.terms.specs.Choice.{if◌then◌else◌, ∣◌∣}
 use Rattle.terms.proofs.Choice.{either}
-use Rattle.bytes.specs.Bytes.{index_after, index_of}
+use Rattle.text.specs.Bytes.{index_after, index_of}
 use Rattle.sheets.specs.Lines.{Lines, end, unclosed, line, line_feed, behind, lines}
 use Rattle.text.proofs.Text.{from_place}
 use Rattle.sheets.proofs.Places.{cut_first}

@@ -8,7 +8,7 @@ use native.Mathlib.Omega.{arith}
 use lib.ListN.{take, drop, length-drop}
 use lib.Seq.{take_all}
 use lib.Dec.{eqb}
-use Rattle.bytes.specs.Bytes.{slice, index_after, index_of}
+use Rattle.text.specs.Bytes.{slice, index_after, index_of}
 use Rattle.terms.specs.Choice.{if◌then◌else◌, ∣◌∣}
 use Rattle.text.proofs.Text.{drop_take}
 

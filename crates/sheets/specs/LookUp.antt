@@ -2,7 +2,7 @@
 -- "the bytes after the first `=` and before the line feed, as that stretch of the sheet itself"
 use Rattle.std.specs.Prelude.{List, ℕ, zero, suc, ◌+◌, ltb}
 use Rattle.terms.specs.Choice.{if◌then◌else◌, ∣◌∣}
-use Rattle.bytes.specs.Bytes.{index_of}
+use Rattle.text.specs.Bytes.{index_of}
 use Rattle.sheets.specs.Lines.{Lines, end, unclosed, line}
 
 abbrev pub equals_sign : ℕ

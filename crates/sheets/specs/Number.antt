@@ -3,7 +3,7 @@
 use Rattle.std.specs.Prelude.{Bool, true, false, not, List, [], ◌∷◌, ℕ, ◌+◌, ◌*◌, get_or, take, drop, leb, eqb}
 use Rattle.terms.specs.Choice.{if◌then◌else◌, ∣◌∣, every}
 use Rattle.terms.specs.Refusals.{not_in_form}
-use Rattle.bytes.specs.Bytes.{index_of}
+use Rattle.text.specs.Bytes.{index_of}
 use Rattle.text.specs.Digits.{zero_digit, all_digits, value}
 
 -- What the value of a line comes to: a number, or the number of a refusal.

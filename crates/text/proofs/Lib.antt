@@ -6,3 +6,4 @@
 -- of a trace's (the crate traces); laws of any lists (`lib.Seq`, `lib.ListN`).
 pub mod Text
 pub mod Worth
+pub mod FirstPlace

@@ -1,3 +1,4 @@
--- Texts as bytes: quoted, in front of others, the same; and digits.
+-- Texts as bytes: quoted, in front of others, the same; digits; and where a byte first stands.
 pub mod Text
 pub mod Digits
+pub mod Bytes

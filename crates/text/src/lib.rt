@@ -7,6 +7,7 @@ ghost use Rattle.terms.specs.Choice.{same};
 ghost use Rattle.text.specs.Text.{starts};
 
 pub mod digits;
+pub mod scan;
 
 pub fn starts_with(bytes: &[u8], key: &[u8]) -> bool
     ensures { result ≡ starts key.now bytes.now }

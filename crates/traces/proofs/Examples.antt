@@ -1,6 +1,6 @@
 -- The examples hold, each by computation.
 use mathlib.Core.Path.{refl}
-use Rattle.bytes.specs.Bytes.{index_of}
+use Rattle.text.specs.Bytes.{index_of}
 use Rattle.sheets.specs.Result.{decimal}
 use Rattle.traces.specs.Record.{is_integer, is_timestamp, record_from, asked}
 use Rattle.traces.specs.Touch.{page_count, touched, touches_over}

@@ -7,7 +7,7 @@ use native.Mathlib.Omega.{arith}
 use lib.ListN.{take, drop}
 use lib.Dec.{eqb}
 use Rattle.terms.specs.Choice.{if◌then◌else◌, ∣◌∣}
-use Rattle.bytes.specs.Bytes.{index_after, index_of}
+use Rattle.text.specs.Bytes.{index_after, index_of}
 use Rattle.sheets.specs.Number.{comma}
 use Rattle.sheets.proofs.Places.{cut_first}
 use Rattle.traces.specs.Fields.{Fields, field, last, behind, fields, first}

@@ -2,7 +2,7 @@
 -- A line is a read or a write, or it is not in the council's form.
 use Rattle.std.specs.Prelude.{Bool, false, List, [], ◌∷◌, ℕ, ◌+◌, take, drop, leb}
 use Rattle.terms.specs.Choice.{if◌then◌else◌, ∣◌∣, every, same}
-use Rattle.bytes.specs.Bytes.{index_of}
+use Rattle.text.specs.Bytes.{index_of}
 use Rattle.text.specs.Text.{bytes}
 use Rattle.text.specs.Digits.{all_digits, value}
 use Rattle.traces.specs.Fields.{Fields, field, last, fields, first}

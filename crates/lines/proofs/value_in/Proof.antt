@@ -5,7 +5,7 @@ use Prim.Native.Nat.{ℕ, ◌+◌, ◌-◌}
 use native.Mathlib.Omega.{arith}
 use lib.ListN.{take, drop}
 use borrow.Author.Rules.{rules}
-use Rattle.bytes.specs.Bytes.{index_of}
+use Rattle.text.specs.Bytes.{index_of}
 use Rattle.sheets.specs.LookUp.{equals_sign}
 use Rattle.sheets.proofs.Places.{part_is}
 use Rattle.lines.proofs.Spans.{value_here, no_value, span_between, span_nowhere}

@@ -9,7 +9,7 @@ use native.Mathlib.Omega.{arith}
 use lib.ListN.{length, take, drop, length-take}
 use lib.Seq.{length-take-le, take-length}
 use borrow.Author.Rules.{rules}
-use Rattle.bytes.specs.Bytes.{slice, index_of}
+use Rattle.text.specs.Bytes.{slice, index_of}
 use Rattle.terms.proofs.Tests.{test_holds, test_fails}
 use Rattle.text.specs.Digits.{all_digits}
 use Rattle.sheets.specs.Number.{means, comma, digits_form}

@@ -5,7 +5,7 @@ use Prim.Native.Nat.{ℕ, ◌+◌}
 use native.Mathlib.Omega.{arith}
 use lib.ListN.{drop}
 use borrow.Author.Rules.{rules}
-use Rattle.bytes.specs.Bytes.{index_of}
+use Rattle.text.specs.Bytes.{index_of}
 use Rattle.sheets.specs.Number.{comma}
 use Rattle.sheets.proofs.Places.{bytes_from}
 use Rattle.records.proofs.Fields.{is-closed, is_last}

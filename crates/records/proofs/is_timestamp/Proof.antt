@@ -5,7 +5,7 @@ use Prim.Native.Nat.{ℕ}
 use native.Mathlib.Nat.{zero-add}
 use lib.Seq.{length-take-le}
 use borrow.Author.Rules.{rules}
-use Rattle.bytes.specs.Bytes.{index_of}
+use Rattle.text.specs.Bytes.{index_of}
 use Rattle.sheets.proofs.Places.{bytes_from}
 use Rattle.traces.specs.Record.{point}
 use Rattle.records.proofs.Timestamps.{no_point, first_fails, second_decides}
