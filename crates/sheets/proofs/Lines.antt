@@ -24,7 +24,7 @@ record NoneIn (b : ℕ) (s : List ℕ) : Type 0 where
   pub none_later : index_of line_feed s ≡ ∣ s ∣
 
 none_in : (b : ℕ) (s : List ℕ) → index_of line_feed (b ∷ s) ≡ suc ∣ s ∣ → NoneIn b s
-unfolding index_of index_after
+unfolding index_of
 none_in b s = by_first (eqb b line_feed) refl
   where
     by_first : (t : Bool) → eqb b line_feed ≡ t → index_after t (index_of line_feed s) ≡ suc ∣ s ∣ → NoneIn b s

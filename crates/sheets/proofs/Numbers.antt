@@ -133,7 +133,7 @@ whole_back n h =
 
 -- The comma behind digits is the first one.
 comma_place : (s t : List ℕ) → all_digits s ≡ true → index_of comma (s ++ (comma ∷ t)) ≡ ∣ s ∣
-unfolding index_of index_after
+unfolding index_of
 comma_place [] t all = refl
 comma_place (b ∷ s) t all = go (is_digit b) refl all (comma_place s t)
   where

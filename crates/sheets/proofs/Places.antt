@@ -13,7 +13,7 @@ use Rattle.terms.specs.Choice.{if◌then◌else◌, ∣◌∣}
 use Rattle.text.proofs.Text.{drop_take}
 
 pub place_at_most : (x : ℕ) (s : List ℕ) → index_of x s ≤ ∣ s ∣
-unfolding index_of index_after
+unfolding index_of
 place_at_most x [] = omega arith
 place_at_most x (b ∷ s) = go (eqb b x) (place_at_most x s)
   where
@@ -54,7 +54,7 @@ module _
         ∙ ap (λ (m : ℕ). cut (b ∷ take n s) (parts (drop m (b ∷ s)))) next
 
     pub cut_first : (s : List ℕ) → index_of separator s < ∣ s ∣ → parts s ≡ cut_at (index_of separator s) s
-    unfolding index_of index_after
+    unfolding index_of
     cut_first [] some = absurd (omega arith)
     cut_first (b ∷ s) some = by_first b s ∙ by_test (eqb b separator) some (cut_first s)
       where

@@ -18,11 +18,11 @@ module _ (x i to : ℕ) (s : List ℕ) (before : i < to) (inside : to ≤ ∣ s 
       ∙ ap (λ (b : ℕ). b ∷ drop (i + 1) (take to s)) (get_or-take to s i 0 before)
 
   pub found_here : get_or s i 0 ≡ x → index_of x (slice i to s) ≡ 0
-  unfolding index_of index_after
+  unfolding index_of
   found_here is = rw (slice_goes_on, eq-eqb (get_or s i 0) x is)
 
   pub found_behind : get_or s i 0 ≢ x → index_of x (slice i to s) ≡ suc (index_of x (slice (i + 1) to s))
-  unfolding index_of index_after
+  unfolding index_of
   found_behind isnt = rw (slice_goes_on, ne_eqb (get_or s i 0) x isnt)
 
 -- Nothing is left at the end.

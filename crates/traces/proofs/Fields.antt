@@ -17,7 +17,7 @@ pub fields_closed : (s : List ℕ) → index_of comma s < ∣ s ∣
 fields_closed = cut_first comma field behind fields (λ b s. refl) (λ b l rest. refl)
 
 pub fields_last : (s : List ℕ) → index_of comma s ≡ ∣ s ∣ → fields s ≡ last s
-unfolding index_of index_after
+unfolding index_of
 fields_last [] none = refl
 fields_last (b ∷ s) none = by_first (eqb b comma) none (fields_last s)
   where
@@ -28,7 +28,7 @@ fields_last (b ∷ s) none = by_first (eqb b comma) none (fields_last s)
 
 -- The first field, whatever follows it.
 pub first_field : (s : List ℕ) → first (fields s) ≡ take (index_of comma s) s
-unfolding index_of index_after
+unfolding index_of
 first_field [] = refl
 first_field (b ∷ s) = by_first (eqb b comma) (first_field s)
   where
