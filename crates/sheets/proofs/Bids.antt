@@ -17,7 +17,7 @@ use Rattle.text.specs.Text.{bytes, starts}
 use Rattle.sheets.specs.Number.{Value, means, wrong, whole_form, whole, cost_form, miss_cost}
 use Rattle.sheets.specs.Lines.{Lines, end, unclosed, line, lines, Reading, good, bad, before, under}
 use Rattle.sheets.specs.Bid.{Bid, Meaning, bid, refused, PolicyValue, named_in, policy_value, policy_meant, in_range}
-use Rattle.sheets.specs.Bid.{policy_line, size_line, cost_line, page_line, Pages, listed, refused_at, onto, pages_from}
+use Rattle.sheets.specs.Bid.{policy_line, size_line, cost_line, page_meant, page_line, Pages, listed, refused_at, onto, pages_from}
 use Rattle.sheets.specs.Bid.{with_pages, after_line, in_order, meaning_where}
 use Rattle.sheets.specs.Demands.{InRange, BidsInRange, RefusalsHaveNumbers}
 use Rattle.sheets.proofs.Forms.{is_cost, cost_below}
@@ -123,7 +123,7 @@ Allowed n page = (n < 1000) × ThirtyTwoBits page
 
 page_allowed : (n : ℕ) (ls : Lines) → OfReading (Allowed n) (page_line n ls)
 unfolding page_line
-page_allowed n ls = of_under (Allowed n) (bytes "page=") _ (λ s.
+page_allowed n ls = of_under (Allowed n) (bytes "page=") (page_meant n) (λ s.
     by_test (OfValue (Allowed n)) (ltb n 1000) (λ h. both (ltb-true n 1000 h) (whole s) (whole_at_most s))
     (λ h. omega arith)) ls
   where

@@ -17,7 +17,7 @@ use Rattle.text.proofs.Text.{starts_splits}
 use Rattle.sheets.specs.Number.{Value, means}
 use Rattle.sheets.specs.Lines.{Lines, end, unclosed, line, line_feed, behind, lines}
 use Rattle.sheets.specs.Lines.{Reading, good, bad, before, under}
-use Rattle.sheets.specs.Bid.{Meaning, bid, refused, named_in, policy_meant, policy_line, Pages, listed, refused_at}
+use Rattle.sheets.specs.Bid.{Meaning, bid, refused, named_in, policy_value, policy_meant, policy_line, Pages, listed, refused_at}
 use Rattle.sheets.specs.Bid.{with_pages, after_line, in_order, meaning_where, meaning, filed_meaning}
 use Rattle.sheets.specs.Copy.{blank_policy, with_car, car_where_blank, copy, not_copied, too_long, copy_if, copy_of}
 use Rattle.sheets.specs.Demands.{NamedMeanTheSame, under_policy, BlanksTurn, RefusalsStay, CopiesMeanTheSame}
@@ -59,7 +59,8 @@ module _ (new old : Value) where
 
   policy_stays : (s : List ℕ) → blank_policy s ≡ false → policy_line new (lines s) ≡ policy_line old (lines s)
   unfolding policy_line
-  policy_stays = read_alike _ _ (λ b s. name_stays policies (b ∷ s)) (bytes "policy=")
+  policy_stays =
+      read_alike (λ s. policy_meant new (policy_value s)) (λ s. policy_meant old (policy_value s)) (λ b s. name_stays policies (b ∷ s)) (bytes "policy=")
 
   named_stays : (s : List ℕ) → blank_policy s ≡ false → meaning_where new s ≡ meaning_where old s
   unfolding meaning_where in_order

@@ -12,7 +12,7 @@ use borrow.Author.Tests.{ltb-true, ltb-false, lt-ltb, le-ltb, ne_eqb, eqb-false}
 use Rattle.terms.specs.Choice.{if◌then◌else◌, ∣◌∣}
 use Rattle.terms.proofs.Choice.{by_test}
 use Rattle.terms.proofs.Tests.{reads}
-use Rattle.text.specs.Bytes.{index_after, index_of}
+use Rattle.text.specs.Bytes.{index_of}
 use Rattle.text.specs.Digits.{zero_digit, is_digit, all_digits, value, value_after}
 use Rattle.sheets.specs.Number.{means, comma}
 use Rattle.sheets.specs.Number.{no_leading_zero, digits_form, before_comma, after_comma}
