@@ -2,7 +2,6 @@
 // pages 0 and 4,294,967,295. It prints what each call gave, and the gate compares that with the file stdout.
 #![tactic(auto)]
 
-
 fn space_and(n: u32) {
     io::write_all(1, b" ");
     io::print_decimal(1, n as u64);
