@@ -1,42 +1,41 @@
 -- A lent buffer that is read into, read after read. No contract can say which bytes a call of the system reads; what is
 -- said here is that they are handed on as each read put them, all of them and in order, and when the reading is over.
-use Rattle.std.specs.Prelude.{◌≡◌, List, [], ◌++◌, ℕ, zero, suc, ◌+◌, ◌≤◌, length, take, drop, ℤ, pos, negsuc}
+use Rattle.std.specs.Prelude.{◌≡◌, List, [], ◌++◌, ℕ, zero, suc, ◌+◌, ◌≤◌, length, take, drop, Result, Ok, Err}
 use Rattle.streams.specs.declared.Input.{Input}
 use Rattle.streams.specs.declared.Input.TheVariants.{Came, Failed}
 use Rattle.streams.specs.declared.Got.{Got}
-use Rattle.streams.specs.declared.Got.TheVariants as Got
 
 -- How many bytes a read put, which is at least one where it put any.
 abbrev pub put : Got → ℕ
 put (Got.Bytes n) = n
 put Got.End = 0
 put Got.Interrupted = 0
-put Got.Failed = 0
+put (Got.Failed e) = 0
 
 abbrev pub Some : Got → Type 0
 Some (Got.Bytes n) = 1 ≤ n
 Some Got.End = Unit {0}
 Some Got.Interrupted = Unit {0}
-Some Got.Failed = Unit {0}
+Some (Got.Failed e) = Unit {0}
 
 abbrev pub IsFailure : Got → Type 0
 IsFailure (Got.Bytes n) = ⊥
 IsFailure Got.End = ⊥
 IsFailure Got.Interrupted = Unit {0}
-IsFailure Got.Failed = Unit {0}
+IsFailure (Got.Failed e) = Unit {0}
 
 -- What a read's answer tells. "Only a read that answers 0 ends the input".
-abbrev pub ReadTells : ℤ → Got → Type 0
-ReadTells (pos zero) r = r ≡ Got.End
-ReadTells (pos (suc n)) r = r ≡ Got.Bytes (suc n)
-ReadTells (negsuc n) r = IsFailure r
+abbrev pub ReadTells : {E : Type 0} → Result ℕ E → Got → Type 0
+ReadTells (Ok zero) r = r ≡ Got.End
+ReadTells (Ok (suc n)) r = r ≡ Got.Bytes (suc n)
+ReadTells (Err e) r = IsFailure r
 
 -- After a read that put bytes, or was interrupted, there is another.
 abbrev pub GoesOn : Got → Type 0
 GoesOn (Got.Bytes n) = Unit {0}
 GoesOn Got.End = ⊥
 GoesOn Got.Interrupted = Unit {0}
-GoesOn Got.Failed = ⊥
+GoesOn (Got.Failed e) = ⊥
 
 -- A read from a place of the buffer on: what stood before the place stays.
 pub record ReadAt (w : List ℕ) (at : ℕ) (r : Got) (w' : List ℕ) : Type 0 where

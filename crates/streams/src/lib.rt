@@ -3,8 +3,11 @@
 #![tactic(auto)]
 
 ghost use Rattle.std.specs.Prelude.{◌≡◌, ◌≤◌, length};
-ghost use Rattle.libc.specs.Io.{Moved};
+ghost use Rattle.std.specs.Io.{ReadsAtMost};
 ghost use Rattle.streams.specs.Reads.{ReadTells, ReadAt, Handed};
+
+use std::io;
+use std::io::{ErrorKind, Read};
 
 // What came of a file, as standard input: so many bytes, fewer than were asked for only where the input ended; or a
 // read failed.
@@ -20,80 +23,79 @@ pub enum Got {
     Bytes(usize),
     End,
     Interrupted,
-    Failed,
+    Failed(io::Error),
 }
 
 // A read that a signal interrupts is tried again, so many times in all: a proved loop has to end.
 const TRIES: u32 = 1000000;
 
 // What a read's answer tells: only 0 is the end of the input.
-fn told(got: isize, part: &[u8]) -> Got
-    requires { Moved (length part.now) got }
+fn told(got: io::Result<usize>) -> Got
     ensures { ReadTells got result }
 {
-    if got == 0 {
-        return Got::End;
+    match got {
+        Ok(0) => Got::End,
+        Ok(n) => Got::Bytes(n),
+        Err(e) => {
+            if e.kind() == ErrorKind::Interrupted {
+                Got::Interrupted
+            } else {
+                Got::Failed(e)
+            }
+        }
     }
-    let n = io::count(got, part);
-    if n != 0 {
-        return Got::Bytes(n);
-    }
-    if os::errno() == libc::EINTR {
-        return Got::Interrupted;
-    }
-    Got::Failed
 }
 
 // One read, to a place of the buffer on.
-fn read_once(fd: i32, buf: &mut [u8], at: usize) -> Got
+fn read_once<R: Read>(reader: &mut R, buf: &mut [u8], at: usize) -> Got
     requires { at ≤ length buf.old }
     ensures { ReadAt buf.old at result buf.new }
 {
-    let part = &mut buf[at..];
-    let got = libc::read(fd, part);
-    told(got, part)
+    let got = reader.read(&mut buf[at..]);
+    told(got)
 }
 
-fn failed(what: &[u8]) -> Input
+fn failed(rt: &impl Eprint, what: &str, error: io::Error) -> Input
     ensures { result ≡ Input.Failed }
 {
-    os::fail(what);
+    let _ = eprintln!(rt; "{what}: {error}");
     Input::Failed
 }
 
 // Reads until the file ends or the buffer is full; where a read fails, that is said by these words.
-pub fn read_from(fd: i32, what: &[u8], buf: &mut [u8]) -> Input
+pub fn read_from<R: Read>(rt: &impl Eprint, reader: &mut R, what: &str, buf: &mut [u8]) -> Input
     ensures { Handed buf.old result buf.new }
 {
     let mut at = 0;
     let mut tries = TRIES;
     while at < buf.len() && 0 < tries {
-        let got = read_once(fd, buf, at);
-        match got {
+        match read_once(reader, buf, at) {
             Got::Bytes(n) => at += n,
             Got::End => return Input::Came(at),
             Got::Interrupted => tries -= 1,
-            Got::Failed => return failed(what),
+            Got::Failed(e) => return failed(rt, what, e),
         }
     }
     if at < buf.len() {
-        return failed(what);
+        return failed(rt, what, io::Error::from(ErrorKind::Interrupted));
     }
     Input::Came(at)
 }
 
 // Standard input, read so.
-pub fn read_input(buf: &mut [u8]) -> Input
+pub fn read_input<R: Read>(rt: &impl Eprint, reader: &mut R, buf: &mut [u8]) -> Input
     ensures { Handed buf.old result buf.new }
 {
-    read_from(libc::STDIN_FILENO, b"reading standard input", buf)
+    read_from(rt, reader, "reading standard input", buf)
 }
 
 // Writes all of a text to standard output, and answers whether that went well.
-pub fn print(text: &[u8]) -> bool {
-    let written = io::write_all(libc::STDOUT_FILENO, text);
-    if !written {
-        os::fail(b"writing standard output");
+pub fn print(rt: &(impl Print + Eprint), text: &[u8]) -> bool {
+    match rt.write_all(text) {
+        Ok(()) => true,
+        Err(e) => {
+            let _ = eprintln!(rt; "writing standard output: {e}");
+            false
+        }
     }
-    written
 }
