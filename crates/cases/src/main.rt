@@ -2,37 +2,39 @@
 // pages 0 and 4,294,967,295. It prints what each call gave, and the gate compares that with the file stdout.
 #![tactic(auto)]
 
-fn space_and(n: u32) {
-    io::write_all(1, b" ");
-    io::print_decimal(1, n as u64);
+use std::io;
+
+fn space_and(rt: &impl Print, n: u32) -> io::Result<()> {
+    rt.write_all(b" ")?;
+    rt.print(n as u64)
 }
 
 // A mark, then an answer: its number, kind, page, list and moves.
-fn show_answer(mark: &[u8], a: directory::Answer) {
-    io::write_all(1, mark);
-    space_and(a.number);
-    space_and(a.kind);
-    space_and(a.page);
-    space_and(a.list);
-    space_and(a.moves);
-    io::write_all(1, b"\n");
+fn show_answer(rt: &impl Print, mark: &[u8], a: directory::Answer) -> io::Result<()> {
+    rt.write_all(mark)?;
+    space_and(rt, a.number)?;
+    space_and(rt, a.kind)?;
+    space_and(rt, a.page)?;
+    space_and(rt, a.list)?;
+    space_and(rt, a.moves)?;
+    rt.write_all(b"\n")
 }
 
 // A mark, then a number.
-fn show_number(mark: &[u8], n: u32) {
-    io::write_all(1, mark);
-    space_and(n);
-    io::write_all(1, b"\n");
+fn show_number(rt: &impl Print, mark: &[u8], n: u32) -> io::Result<()> {
+    rt.write_all(mark)?;
+    space_and(rt, n)?;
+    rt.write_all(b"\n")
 }
 
-fn show_words(dir: &[u32]) {
-    io::write_all(1, b"  words");
+fn show_words(rt: &impl Print, dir: &[u32]) -> io::Result<()> {
+    rt.write_all(b"  words")?;
     let mut i = 0;
     while i < dir.len() {
-        space_and(dir[i]);
+        space_and(rt, dir[i])?;
         i += 1;
     }
-    io::write_all(1, b"\n");
+    rt.write_all(b"\n")
 }
 
 // The trace from a fresh directory, and the last request's answer.
@@ -53,42 +55,50 @@ fn replay(policy: u32, c: u32, trace: &[u32], dir: &mut [u32]) -> directory::Ans
     last
 }
 
-fn case(mark: &[u8], policy: u32, c: u32, trace: &[u32], dir: &mut [u32]) {
-    show_answer(mark, replay(policy, c, trace, dir));
-    show_words(dir);
+fn case(
+    rt: &impl Print,
+    mark: &[u8],
+    policy: u32,
+    c: u32,
+    trace: &[u32],
+    dir: &mut [u32],
+) -> io::Result<()> {
+    show_answer(rt, mark, replay(policy, c, trace, dir))?;
+    show_words(rt, dir)
 }
 
 // The check of the directory with the word at another value, which is then put back.
-fn broken(mark: &[u8], dir: &mut [u32], at: usize, value: u32) {
+fn broken(rt: &impl Print, mark: &[u8], dir: &mut [u32], at: usize, value: u32) -> io::Result<()> {
     if at < dir.len() {
         let old = dir[at];
         dir[at] = value;
-        show_number(mark, directory::check(dir));
+        show_number(rt, mark, directory::check(dir))?;
         dir[at] = old;
     }
+    Ok(())
 }
 
-fn worked_cases() {
+fn worked_cases(rt: &impl Print) -> io::Result<()> {
     let mut one = [0u32; 12];
     let mut two = [0u32; 16];
     let trace = [1u32, 2, 1, 3, 2, 1, 4, 2, 5];
     let again = [1u32, 2, 1, 2, 3];
-    case(b"P1", 1, 2, &trace[..4], &mut two);
-    case(b"P2", 1, 2, &trace[..5], &mut two);
-    case(b"P3", 1, 2, &trace[..7], &mut two);
-    case(b"P4", 1, 2, &trace[..8], &mut two);
-    case(b"P5", 1, 2, &trace, &mut two);
-    case(b"P6", 2, 2, &trace[..4], &mut two);
-    case(b"P7", 2, 2, &trace[..5], &mut two);
-    case(b"P8", 2, 2, &trace[..7], &mut two);
-    case(b"P9", 2, 2, &trace[..8], &mut two);
-    case(b"P10", 1, 2, &again, &mut two);
-    case(b"P11", 2, 2, &again, &mut two);
-    case(b"P12", 1, 1, &trace[..2], &mut one);
+    case(rt, b"P1", 1, 2, &trace[..4], &mut two)?;
+    case(rt, b"P2", 1, 2, &trace[..5], &mut two)?;
+    case(rt, b"P3", 1, 2, &trace[..7], &mut two)?;
+    case(rt, b"P4", 1, 2, &trace[..8], &mut two)?;
+    case(rt, b"P5", 1, 2, &trace, &mut two)?;
+    case(rt, b"P6", 2, 2, &trace[..4], &mut two)?;
+    case(rt, b"P7", 2, 2, &trace[..5], &mut two)?;
+    case(rt, b"P8", 2, 2, &trace[..7], &mut two)?;
+    case(rt, b"P9", 2, 2, &trace[..8], &mut two)?;
+    case(rt, b"P10", 1, 2, &again, &mut two)?;
+    case(rt, b"P11", 2, 2, &again, &mut two)?;
+    case(rt, b"P12", 1, 1, &trace[..2], &mut one)
 }
 
 // C1 to C15 of crates/figures/specs/Cases.antt.
-fn classics() {
+fn classics(rt: &impl Print) -> io::Result<()> {
     let mut one = [0u32; 12];
     let mut two = [0u32; 16];
     let mut three = [0u32; 20];
@@ -98,31 +108,31 @@ fn classics() {
     let single = [1u32, 1, 2];
     let apart = [1u32, 2, 1, 3, 4, 5];
     let middle = [1u32, 2, 3, 4, 2];
-    case(b"C1", 3, 2, &trace[..3], &mut two);
-    case(b"C2", 4, 2, &trace[..3], &mut two);
-    case(b"C3", 5, 2, &trace[..3], &mut two);
-    case(b"C4", 3, 2, &trace[..4], &mut two);
-    case(b"C5", 4, 2, &trace[..4], &mut two);
-    case(b"C6", 5, 2, &trace[..4], &mut two);
-    case(b"C7", 3, 2, &trace, &mut two);
-    case(b"C8", 4, 2, &again, &mut two);
-    case(b"C9", 3, 1, &single, &mut one);
-    case(b"C10", 4, 1, &single, &mut one);
-    case(b"C11", 5, 1, &single, &mut one);
-    case(b"C12", 3, 3, &apart, &mut three);
-    case(b"C13", 4, 3, &apart, &mut three);
-    case(b"C14", 5, 3, &apart, &mut three);
-    case(b"C15", 5, 4, &middle, &mut four);
+    case(rt, b"C1", 3, 2, &trace[..3], &mut two)?;
+    case(rt, b"C2", 4, 2, &trace[..3], &mut two)?;
+    case(rt, b"C3", 5, 2, &trace[..3], &mut two)?;
+    case(rt, b"C4", 3, 2, &trace[..4], &mut two)?;
+    case(rt, b"C5", 4, 2, &trace[..4], &mut two)?;
+    case(rt, b"C6", 5, 2, &trace[..4], &mut two)?;
+    case(rt, b"C7", 3, 2, &trace, &mut two)?;
+    case(rt, b"C8", 4, 2, &again, &mut two)?;
+    case(rt, b"C9", 3, 1, &single, &mut one)?;
+    case(rt, b"C10", 4, 1, &single, &mut one)?;
+    case(rt, b"C11", 5, 1, &single, &mut one)?;
+    case(rt, b"C12", 3, 3, &apart, &mut three)?;
+    case(rt, b"C13", 4, 3, &apart, &mut three)?;
+    case(rt, b"C14", 5, 3, &apart, &mut three)?;
+    case(rt, b"C15", 5, 4, &middle, &mut four)
 }
 
-fn pages_at_the_ends() {
+fn pages_at_the_ends(rt: &impl Print) -> io::Result<()> {
     let mut two = [0u32; 16];
     let ends = [0u32, 4294967295, 0, 7, 4294967295];
-    case(b"pages 0 and 4294967295, CAR", 1, 2, &ends, &mut two);
-    case(b"pages 0 and 4294967295, CART", 2, 2, &ends, &mut two);
+    case(rt, b"pages 0 and 4294967295, CAR", 1, 2, &ends, &mut two)?;
+    case(rt, b"pages 0 and 4294967295, CART", 2, 2, &ends, &mut two)
 }
 
-fn sizes_of_a_fresh_directory() {
+fn sizes_of_a_fresh_directory(rt: &impl Print) -> io::Result<()> {
     let mut words7 = [0u32; 7];
     let mut words8 = [0u32; 8];
     let mut words12 = [0u32; 12];
@@ -130,52 +140,69 @@ fn sizes_of_a_fresh_directory() {
     let mut words16 = [0u32; 16];
     let mut words17 = [0u32; 17];
     let mut words4108 = [0u32; 4108];
-    show_number(b"fresh c=1", directory::fresh(1, 1, &mut words12));
-    show_number(b"fresh c=0", directory::fresh(1, 0, &mut words8));
-    show_number(b"fresh c=1025", directory::fresh(1, 1025, &mut words4108));
-    show_number(b"fresh policy 0", directory::fresh(0, 2, &mut words16));
-    show_number(b"fresh policy 5", directory::fresh(5, 2, &mut words16));
-    show_number(b"fresh policy 6", directory::fresh(6, 2, &mut words16));
+    show_number(rt, b"fresh c=1", directory::fresh(1, 1, &mut words12))?;
+    show_number(rt, b"fresh c=0", directory::fresh(1, 0, &mut words8))?;
     show_number(
+        rt,
+        b"fresh c=1025",
+        directory::fresh(1, 1025, &mut words4108),
+    )?;
+    show_number(rt, b"fresh policy 0", directory::fresh(0, 2, &mut words16))?;
+    show_number(rt, b"fresh policy 5", directory::fresh(5, 2, &mut words16))?;
+    show_number(rt, b"fresh policy 6", directory::fresh(6, 2, &mut words16))?;
+    show_number(
+        rt,
         b"fresh policy 6, c=0, 7 words",
         directory::fresh(6, 0, &mut words7),
-    );
-    show_number(b"fresh a word short", directory::fresh(1, 2, &mut words15));
-    show_number(b"fresh a word long", directory::fresh(1, 2, &mut words17));
+    )?;
+    show_number(
+        rt,
+        b"fresh a word short",
+        directory::fresh(1, 2, &mut words15),
+    )?;
+    show_number(
+        rt,
+        b"fresh a word long",
+        directory::fresh(1, 2, &mut words17),
+    )
 }
 
-fn largest_directory() {
+fn largest_directory(rt: &impl Print) -> io::Result<()> {
     let mut words = [0u32; 4104];
-    show_number(b"fresh c=1024", directory::fresh(2, 1024, &mut words));
-    show_number(b"check c=1024", directory::check(&words));
-    show_answer(b"request c=1024", directory::request(&mut words, 5));
+    show_number(rt, b"fresh c=1024", directory::fresh(2, 1024, &mut words))?;
+    show_number(rt, b"check c=1024", directory::check(&words))?;
+    show_answer(rt, b"request c=1024", directory::request(&mut words, 5))
 }
 
-fn sizes_of_a_checked_directory() {
+fn sizes_of_a_checked_directory(rt: &impl Print) -> io::Result<()> {
     let none = [0u32; 0];
     let words7 = [1u32, 2, 0, 0, 0, 0, 0];
     let words15 = [1u32, 2, 0, 0, 0, 0, 0, 0, 0, 0, 0, 0, 0, 0, 0];
     let words17 = [1u32, 2, 0, 0, 0, 0, 0, 0, 0, 0, 0, 0, 0, 0, 0, 0, 0];
     let mut short = words15;
-    show_number(b"check 0 words", directory::check(&none));
-    show_number(b"check 7 words", directory::check(&words7));
-    show_number(b"check a word short", directory::check(&words15));
-    show_number(b"check a word long", directory::check(&words17));
-    show_answer(b"request a word short", directory::request(&mut short, 9));
-    show_words(&short);
+    show_number(rt, b"check 0 words", directory::check(&none))?;
+    show_number(rt, b"check 7 words", directory::check(&words7))?;
+    show_number(rt, b"check a word short", directory::check(&words15))?;
+    show_number(rt, b"check a word long", directory::check(&words17))?;
+    show_answer(
+        rt,
+        b"request a word short",
+        directory::request(&mut short, 9),
+    )?;
+    show_words(rt, &short)
 }
 
-fn words_out_of_range() {
+fn words_out_of_range(rt: &impl Print) -> io::Result<()> {
     let mut two = [0u32; 16];
     directory::fresh(1, 2, &mut two);
-    broken(b"check c=0", &mut two, 1, 0);
-    broken(b"check c=1025", &mut two, 1, 1025);
-    broken(b"check policy 0", &mut two, 0, 0);
-    broken(b"check policy 6", &mut two, 0, 6);
+    broken(rt, b"check c=0", &mut two, 1, 0)?;
+    broken(rt, b"check c=1025", &mut two, 1, 1025)?;
+    broken(rt, b"check policy 0", &mut two, 0, 0)?;
+    broken(rt, b"check policy 6", &mut two, 0, 6)
 }
 
 // The rules that all policies have, each broken by itself: U7 to U20 of crates/figures/specs/Cases.antt without U9.
-fn broken_rules() {
+fn broken_rules(rt: &impl Print) -> io::Result<()> {
     let mut two = [0u32; 16];
     let trace = [1u32, 2, 1, 3, 2, 1, 4];
     let long = [1u32, 2, 0, 0, 2, 1, 0, 0, 4, 0, 3, 0, 1, 0, 0, 0];
@@ -184,73 +211,73 @@ fn broken_rules() {
     let unused = [1u32, 2, 0, 0, 1, 0, 0, 0, 4, 0, 1, 0, 0, 0, 0, 0];
     // after P3: T1 = 4, T2 = 1, B1 = 3, B2 = 2
     replay(1, 2, &trace, &mut two);
-    show_number(b"sound CAR", directory::check(&two));
-    broken(b"p over c", &mut two, 2, 3);
-    show_number(b"T1 and T2 too long", directory::check(&long));
-    broken(b"B1 and B2 too long", &mut two, 7, 2);
-    show_number(b"B1 while there is room", directory::check(&room_b1));
-    show_number(b"B2 while there is room", directory::check(&room_b2));
-    broken(b"a page in T1 and T2", &mut two, 10, 4);
-    broken(b"a page in T1 and B2", &mut two, 14, 4);
-    broken(b"flags of 4, first entry", &mut two, 9, 4);
-    broken(b"flags of 4, last entry", &mut two, 15, 4);
-    broken(b"a bit in B1", &mut two, 13, 1);
-    broken(b"a bit in B2", &mut two, 15, 1);
-    show_number(b"the first unused word", directory::check(&unused));
+    show_number(rt, b"sound CAR", directory::check(&two))?;
+    broken(rt, b"p over c", &mut two, 2, 3)?;
+    show_number(rt, b"T1 and T2 too long", directory::check(&long))?;
+    broken(rt, b"B1 and B2 too long", &mut two, 7, 2)?;
+    show_number(rt, b"B1 while there is room", directory::check(&room_b1))?;
+    show_number(rt, b"B2 while there is room", directory::check(&room_b2))?;
+    broken(rt, b"a page in T1 and T2", &mut two, 10, 4)?;
+    broken(rt, b"a page in T1 and B2", &mut two, 14, 4)?;
+    broken(rt, b"flags of 4, first entry", &mut two, 9, 4)?;
+    broken(rt, b"flags of 4, last entry", &mut two, 15, 4)?;
+    broken(rt, b"a bit in B1", &mut two, 13, 1)?;
+    broken(rt, b"a bit in B2", &mut two, 15, 1)?;
+    show_number(rt, b"the first unused word", directory::check(&unused))?;
     directory::fresh(1, 2, &mut two);
-    broken(b"the last unused word", &mut two, 15, 1);
+    broken(rt, b"the last unused word", &mut two, 15, 1)
 }
 
 // The rules of CAR: U21 to U24.
-fn broken_rules_of_car() {
+fn broken_rules_of_car(rt: &impl Print) -> io::Result<()> {
     let mut two = [0u32; 16];
     let trace = [1u32, 2, 1, 3, 2, 1, 4];
     let long = [1u32, 2, 0, 0, 2, 0, 1, 0, 4, 0, 1, 0, 3, 0, 0, 0];
     // after P3: T1 = 4, T2 = 1, B1 = 3, B2 = 2
     replay(1, 2, &trace, &mut two);
-    broken(b"q for CAR", &mut two, 3, 1);
-    broken(b"a filter in T1 for CAR", &mut two, 9, 2);
-    broken(b"a filter in B2 for CAR", &mut two, 15, 2);
-    show_number(b"T1 and B1 too long for CAR", directory::check(&long));
+    broken(rt, b"q for CAR", &mut two, 3, 1)?;
+    broken(rt, b"a filter in T1 for CAR", &mut two, 9, 2)?;
+    broken(rt, b"a filter in B2 for CAR", &mut two, 15, 2)?;
+    show_number(rt, b"T1 and B1 too long for CAR", directory::check(&long))
 }
 
 // The rules of CART: U25 to U28, and U9, for |T1| + |T2| would wrap to 0.
-fn broken_rules_of_cart() {
+fn broken_rules_of_cart(rt: &impl Print) -> io::Result<()> {
     let mut two = [0u32; 16];
     let trace = [1u32, 2, 1, 3, 2, 1, 4];
     // after P8: T1 = 4, T2 = 1, B1 = 3, B2 = 2
     replay(2, 2, &trace, &mut two);
-    show_number(b"sound CART", directory::check(&two));
-    broken(b"q over 2c", &mut two, 3, 5);
-    broken(b"an S page in T2", &mut two, 11, 0);
-    broken(b"an S page in B2", &mut two, 15, 0);
-    broken(b"an L page in B1", &mut two, 13, 2);
-    broken(b"T1 of 4294967295", &mut two, 4, 4294967295);
+    show_number(rt, b"sound CART", directory::check(&two))?;
+    broken(rt, b"q over 2c", &mut two, 3, 5)?;
+    broken(rt, b"an S page in T2", &mut two, 11, 0)?;
+    broken(rt, b"an S page in B2", &mut two, 15, 0)?;
+    broken(rt, b"an L page in B1", &mut two, 13, 2)?;
+    broken(rt, b"T1 of 4294967295", &mut two, 4, 4294967295)
 }
 
 // The rules of FIFO, CLOCK and LRU: U29 to U37.
-fn broken_rules_of_the_classics() {
+fn broken_rules_of_the_classics(rt: &impl Print) -> io::Result<()> {
     let mut clock = [4u32, 2, 0, 0, 2, 0, 0, 0, 4, 0, 1, 0, 0, 0, 0, 0];
     let mut fifo = [3u32, 2, 0, 0, 2, 0, 0, 0, 4, 0, 1, 0, 0, 0, 0, 0];
     let mut lru = [5u32, 2, 0, 0, 2, 0, 0, 0, 4, 0, 1, 0, 0, 0, 0, 0];
     let in_t2 = [4u32, 2, 0, 0, 1, 1, 0, 0, 4, 0, 1, 0, 0, 0, 0, 0];
     let in_b1 = [4u32, 2, 0, 0, 2, 0, 1, 0, 4, 0, 1, 0, 3, 0, 0, 0];
     let in_b2 = [4u32, 2, 0, 0, 2, 0, 0, 1, 4, 0, 1, 0, 3, 0, 0, 0];
-    show_number(b"sound CLOCK", directory::check(&clock));
-    broken(b"p for CLOCK", &mut clock, 2, 1);
-    broken(b"q for CLOCK", &mut clock, 3, 1);
-    show_number(b"a page in T2 for CLOCK", directory::check(&in_t2));
-    show_number(b"a page in B1 for CLOCK", directory::check(&in_b1));
-    show_number(b"a page in B2 for CLOCK", directory::check(&in_b2));
-    broken(b"a filter for CLOCK", &mut clock, 11, 2);
-    broken(b"a bit for CLOCK", &mut clock, 11, 1);
-    broken(b"a bit for FIFO", &mut fifo, 11, 1);
-    broken(b"a bit for LRU", &mut lru, 9, 1);
-    broken(b"p for FIFO", &mut fifo, 2, 1);
+    show_number(rt, b"sound CLOCK", directory::check(&clock))?;
+    broken(rt, b"p for CLOCK", &mut clock, 2, 1)?;
+    broken(rt, b"q for CLOCK", &mut clock, 3, 1)?;
+    show_number(rt, b"a page in T2 for CLOCK", directory::check(&in_t2))?;
+    show_number(rt, b"a page in B1 for CLOCK", directory::check(&in_b1))?;
+    show_number(rt, b"a page in B2 for CLOCK", directory::check(&in_b2))?;
+    broken(rt, b"a filter for CLOCK", &mut clock, 11, 2)?;
+    broken(rt, b"a bit for CLOCK", &mut clock, 11, 1)?;
+    broken(rt, b"a bit for FIFO", &mut fifo, 11, 1)?;
+    broken(rt, b"a bit for LRU", &mut lru, 9, 1)?;
+    broken(rt, b"p for FIFO", &mut fifo, 2, 1)
 }
 
 // Sound directories at the limits: S1 to S5, S8 to S10.
-fn directories_at_the_limits() {
+fn directories_at_the_limits(rt: &impl Print) -> io::Result<()> {
     let full = [1u32, 2, 2, 0, 1, 1, 1, 1, 4, 1, 1, 1, 3, 0, 2, 0];
     let flags = [2u32, 2, 2, 4, 1, 1, 1, 1, 4, 3, 1, 3, 3, 0, 2, 2];
     let short = [2u32, 2, 0, 0, 2, 0, 2, 0, 0, 0, 4294967295, 1, 3, 0, 2, 0];
@@ -259,49 +286,49 @@ fn directories_at_the_limits() {
     let fifo = [3u32, 2, 0, 0, 2, 0, 0, 0, 4, 0, 0, 0, 0, 0, 0, 0];
     let clock = [4u32, 2, 0, 0, 2, 0, 0, 0, 4, 1, 1, 1, 0, 0, 0, 0];
     let lru = [5u32, 2, 0, 0, 2, 0, 0, 0, 4, 0, 1, 0, 0, 0, 0, 0];
-    show_number(b"CAR at the limits", directory::check(&full));
-    show_number(b"CART at the limits", directory::check(&flags));
-    show_number(b"CART, T1 and B1 of 2c", directory::check(&short));
-    show_number(b"CAR, T2 and B2 of 2c", directory::check(&t2_b2));
-    show_number(b"CAR with room", directory::check(&room));
-    show_number(b"FIFO, full", directory::check(&fifo));
-    show_number(b"CLOCK, all bits set", directory::check(&clock));
-    show_number(b"LRU, full", directory::check(&lru));
+    show_number(rt, b"CAR at the limits", directory::check(&full))?;
+    show_number(rt, b"CART at the limits", directory::check(&flags))?;
+    show_number(rt, b"CART, T1 and B1 of 2c", directory::check(&short))?;
+    show_number(rt, b"CAR, T2 and B2 of 2c", directory::check(&t2_b2))?;
+    show_number(rt, b"CAR with room", directory::check(&room))?;
+    show_number(rt, b"FIFO, full", directory::check(&fifo))?;
+    show_number(rt, b"CLOCK, all bits set", directory::check(&clock))?;
+    show_number(rt, b"LRU, full", directory::check(&lru))
 }
 
 // Two pages whose bits are the same in the set by which crate differing tells pages apart; and one of them twice.
-fn pages_of_the_same_bits() {
+fn pages_of_the_same_bits(rt: &impl Print) -> io::Result<()> {
     let mut alike = [1u32, 2, 0, 0, 2, 0, 0, 0, 7, 0, 449675271, 0, 0, 0, 0, 0];
-    show_number(b"two pages of the same bits", directory::check(&alike));
-    broken(b"one of them twice", &mut alike, 10, 7);
+    show_number(rt, b"two pages of the same bits", directory::check(&alike))?;
+    broken(rt, b"one of them twice", &mut alike, 10, 7)
 }
 
 // A mark, then a run's answer: its number, then requests, hits, misses, evictions and moves.
-fn show_run(mark: &[u8], r: directory::Ran) {
+fn show_run(rt: &impl Print, mark: &[u8], r: directory::Ran) -> io::Result<()> {
     let t = r.tally;
-    io::write_all(1, mark);
-    space_and(r.number);
-    space_and(t.requests);
-    space_and(t.hits);
-    space_and(t.misses);
-    space_and(t.evictions);
-    space_and(t.moves);
-    io::write_all(1, b"\n");
+    rt.write_all(mark)?;
+    space_and(rt, r.number)?;
+    space_and(rt, t.requests)?;
+    space_and(rt, t.hits)?;
+    space_and(rt, t.misses)?;
+    space_and(rt, t.evictions)?;
+    space_and(rt, t.moves)?;
+    rt.write_all(b"\n")
 }
 
 // The worked run of document 01. The last word of the answers stays.
-fn worked_run(mark: &[u8], policy: u32) {
+fn worked_run(rt: &impl Print, mark: &[u8], policy: u32) -> io::Result<()> {
     let mut two = [0u32; 16];
     let mut answers = [9u32; 33];
     let trace = [1u32, 2, 1, 3, 2, 1, 4, 2];
     directory::fresh(policy, 2, &mut two);
-    show_run(mark, directory::run(&mut two, &trace, &mut answers));
-    show_words(&two);
-    show_words(&answers);
+    show_run(rt, mark, directory::run(&mut two, &trace, &mut answers))?;
+    show_words(rt, &two)?;
+    show_words(rt, &answers)
 }
 
 // 1,000 pages are taken, 1,001 refused; a damaged directory is refused first.
-fn runs_at_the_ends() {
+fn runs_at_the_ends(rt: &impl Print) -> io::Result<()> {
     let mut two = [0u32; 16];
     let mut damaged = [1u32, 2, 3, 0, 0, 0, 0, 0, 0, 0, 0, 0, 0, 0, 0, 0];
     let none = [0u32; 0];
@@ -312,47 +339,52 @@ fn runs_at_the_ends() {
     let mut empty = [0u32; 0];
     directory::fresh(1, 2, &mut two);
     show_run(
+        rt,
         b"run of no page",
         directory::run(&mut two, &none, &mut empty),
-    );
+    )?;
     show_run(
+        rt,
         b"run of 1001 pages",
         directory::run(&mut two, &many, &mut empty),
-    );
+    )?;
     show_run(
+        rt,
         b"run of 1001 pages, damaged",
         directory::run(&mut damaged, &many, &mut empty),
-    );
+    )?;
     show_run(
+        rt,
         b"run of 1000 pages, a word short",
         directory::run(&mut two, &most, &mut short),
-    );
-    show_words(&two);
+    )?;
+    show_words(rt, &two)?;
     show_run(
+        rt,
         b"run of 1000 pages",
         directory::run(&mut two, &most, &mut answers),
-    );
-    show_words(&two);
+    )?;
+    show_words(rt, &two)
 }
 
-fn main() {
-    worked_cases();
-    classics();
-    pages_at_the_ends();
-    sizes_of_a_fresh_directory();
-    largest_directory();
-    sizes_of_a_checked_directory();
-    words_out_of_range();
-    broken_rules();
-    broken_rules_of_car();
-    broken_rules_of_cart();
-    broken_rules_of_the_classics();
-    directories_at_the_limits();
-    pages_of_the_same_bits();
-    worked_run(b"worked run, CAR", 1);
-    worked_run(b"worked run, CART", 2);
-    worked_run(b"worked run, FIFO", 3);
-    worked_run(b"worked run, CLOCK", 4);
-    worked_run(b"worked run, LRU", 5);
-    runs_at_the_ends();
+fn main(rt: HostRuntime) -> io::Result<()> {
+    worked_cases(&rt)?;
+    classics(&rt)?;
+    pages_at_the_ends(&rt)?;
+    sizes_of_a_fresh_directory(&rt)?;
+    largest_directory(&rt)?;
+    sizes_of_a_checked_directory(&rt)?;
+    words_out_of_range(&rt)?;
+    broken_rules(&rt)?;
+    broken_rules_of_car(&rt)?;
+    broken_rules_of_cart(&rt)?;
+    broken_rules_of_the_classics(&rt)?;
+    directories_at_the_limits(&rt)?;
+    pages_of_the_same_bits(&rt)?;
+    worked_run(&rt, b"worked run, CAR", 1)?;
+    worked_run(&rt, b"worked run, CART", 2)?;
+    worked_run(&rt, b"worked run, FIFO", 3)?;
+    worked_run(&rt, b"worked run, CLOCK", 4)?;
+    worked_run(&rt, b"worked run, LRU", 5)?;
+    runs_at_the_ends(&rt)
 }

@@ -3,6 +3,8 @@
 // An answer is put together in the raw buffer and sent by one write.
 ghost use Rattle.std.specs.Prelude.{◌≡◌, ◌+◌, ◌*◌, ◌≤◌, length};
 
+use std::io::Read;
+
 // A call's operation, or the input ended before it.
 #[derive(Drop)]
 pub enum Op {
@@ -25,8 +27,8 @@ pub struct Buffer {
 }
 
 // Says that a call cannot be read, and answers false.
-pub fn unreadable() -> bool {
-    io::write_all(libc::STDERR_FILENO, b"probe: a call that cannot be read\n");
+pub fn unreadable(rt: &(impl Print + Eprint)) -> bool {
+    let _ = eprintln!(rt; "probe: a call that cannot be read");
     false
 }
 
@@ -39,10 +41,10 @@ fn no_buffer() -> Buffer
     }
 }
 
-fn too_long() -> Buffer
+fn too_long(rt: &(impl Print + Eprint)) -> Buffer
     ensures { result.count ≡ 0 }
 {
-    unreadable();
+    unreadable(rt);
     no_buffer()
 }
 
@@ -50,55 +52,60 @@ fn word_of(a: u8, b: u8, c: u8, d: u8) -> u32 {
     a as u32 + 256 * (b as u32) + 65536 * (c as u32) + 16777216 * (d as u32)
 }
 
-pub fn read_op() -> Op {
+pub fn read_op(rt: &(impl Print + Eprint), input: &mut impl Read) -> Op {
     let mut raw = [0u8; 4];
-    let streams::Input::Came(n) = streams::read_input(&mut raw) else {
+    let streams::Input::Came(n) = streams::read_input(rt, input, &mut raw) else {
         return Op::Unreadable;
     };
     if n == 0 {
         return Op::End;
     }
     if n < 4 {
-        unreadable();
+        unreadable(rt);
         return Op::Unreadable;
     }
     Op::Is(word_of(raw[0], raw[1], raw[2], raw[3]))
 }
 
 // All of raw from the input; false where that has fewer bytes.
-fn fill(raw: &mut [u8]) -> bool {
-    let streams::Input::Came(n) = streams::read_input(raw) else {
+fn fill(rt: &(impl Print + Eprint), input: &mut impl Read, raw: &mut [u8]) -> bool {
+    let streams::Input::Came(n) = streams::read_input(rt, input, raw) else {
         return false;
     };
     if n < raw.len() {
-        return unreadable();
+        return unreadable(rt);
     }
     true
 }
 
-pub fn read_word() -> Word {
+pub fn read_word(rt: &(impl Print + Eprint), input: &mut impl Read) -> Word {
     let mut raw = [0u8; 4];
-    if !fill(&mut raw) {
+    if !fill(rt, input, &mut raw) {
         return Word::Unreadable;
     }
     Word::Is(word_of(raw[0], raw[1], raw[2], raw[3]))
 }
 
 // The length and the raw bytes of a buffer of at most so many elements.
-fn read_raw(most: usize, raw: &mut [u8]) -> Buffer
+fn read_raw(
+    rt: &(impl Print + Eprint),
+    input: &mut impl Read,
+    most: usize,
+    raw: &mut [u8],
+) -> Buffer
     ensures { (result.count ≤ most) × (4 * result.count ≤ length raw.new) }
 {
-    let Word::Is(n) = read_word() else {
+    let Word::Is(n) = read_word(rt, input) else {
         return no_buffer();
     };
     let count = n as usize;
     if most < count {
-        return too_long();
+        return too_long(rt);
     }
     if raw.len() < 4 * count {
-        return too_long();
+        return too_long(rt);
     }
-    let readable = fill(&mut raw[0..4 * count]);
+    let readable = fill(rt, input, &mut raw[0..4 * count]);
     Buffer { readable, count }
 }
 
@@ -121,24 +128,29 @@ fn unpack(raw: &[u8], words: &mut [u32])
 }
 
 // A buffer of words, put at the start of words.
-pub fn read_words(words: &mut [u32], raw: &mut [u8]) -> Buffer
+pub fn read_words(
+    rt: &(impl Print + Eprint),
+    input: &mut impl Read,
+    words: &mut [u32],
+    raw: &mut [u8],
+) -> Buffer
     ensures { result.count ≤ length words.new }
 {
-    let read = read_raw(words.len(), raw);
+    let read = read_raw(rt, input, words.len(), raw);
     let n = read.count;
     unpack(raw, &mut words[0..n]);
     read
 }
 
 // As many bytes out of the raw bytes, a word to each; false at a word over 255.
-fn unpack_bytes(raw: &[u8], bytes: &mut [u8]) -> bool
+fn unpack_bytes(rt: &(impl Print + Eprint), raw: &[u8], bytes: &mut [u8]) -> bool
     requires { 4 * length bytes.old ≤ length raw.now }
 {
     let mut i = 0;
     while i < bytes.len() {
         let word = word_at(raw, 4 * i);
         if 255 < word {
-            return unreadable();
+            return unreadable(rt);
         }
         bytes[i] = word as u8;
         i += 1;
@@ -147,25 +159,35 @@ fn unpack_bytes(raw: &[u8], bytes: &mut [u8]) -> bool
 }
 
 // A buffer of bytes, put at the start of bytes.
-pub fn read_bytes(bytes: &mut [u8], raw: &mut [u8]) -> Buffer
+pub fn read_bytes(
+    rt: &(impl Print + Eprint),
+    input: &mut impl Read,
+    bytes: &mut [u8],
+    raw: &mut [u8],
+) -> Buffer
     ensures { result.count ≤ length bytes.new }
 {
-    let read = read_raw(bytes.len(), raw);
+    let read = read_raw(rt, input, bytes.len(), raw);
     if !read.readable {
         return read;
     }
     let count = read.count;
-    let readable = unpack_bytes(raw, &mut bytes[0..count]);
+    let readable = unpack_bytes(rt, raw, &mut bytes[0..count]);
     Buffer { readable, count }
 }
 
 // As many words as there are places for, with no length before them.
-pub fn read_numbers(numbers: &mut [u32], raw: &mut [u8]) -> bool {
+pub fn read_numbers(
+    rt: &(impl Print + Eprint),
+    input: &mut impl Read,
+    numbers: &mut [u32],
+    raw: &mut [u8],
+) -> bool {
     let count = 4 * numbers.len();
     if raw.len() < count {
-        return unreadable();
+        return unreadable(rt);
     }
-    if !fill(&mut raw[0..count]) {
+    if !fill(rt, input, &mut raw[0..count]) {
         return false;
     }
     unpack(raw, numbers);
@@ -223,9 +245,9 @@ pub fn put_bytes(raw: &mut [u8], at: usize, bytes: &[u8]) -> usize {
 }
 
 // The answer, which ends at a place of the raw buffer, is written. It says whether that went well.
-pub fn send(raw: &[u8], end: usize) -> bool {
+pub fn send(rt: &(impl Print + Eprint), raw: &[u8], end: usize) -> bool {
     if raw.len() < end {
         return false;
     }
-    streams::print(&raw[0..end])
+    streams::print(rt, &raw[0..end])
 }

@@ -5,6 +5,10 @@
 
 ghost use Rattle.std.specs.Prelude.{◌≤◌, length};
 
+use std::env::{Env, FillError};
+use std::io::Read;
+use std::process::ExitCode;
+
 // Spc has the unit whose pages it lists.
 #[derive(Drop)]
 pub enum Program {
@@ -47,28 +51,36 @@ fn answered(
 
 // Reads the input and prints; the program's status.
 fn answer(
+    rt: &(impl Print + Eprint),
+    reader: &mut impl Read,
     program: Program,
     input: &mut [u8],
     pages: &mut [u32],
     dir: &mut [u32],
     answers: &mut [u32],
     out: &mut [u8],
-) -> i32 {
-    let streams::Input::Came(n) = streams::read_input(input) else {
-        return 1;
+) -> ExitCode {
+    let streams::Input::Came(n) = streams::read_input(rt, reader, input) else {
+        return ExitCode::FAILURE;
     };
     let count = answered(program, &input[0..n], pages, dir, answers, out);
-    if streams::print(&out[0..count]) { 0 } else { 1 }
+    if streams::print(rt, &out[0..count]) {
+        ExitCode::SUCCESS
+    } else {
+        ExitCode::FAILURE
+    }
 }
 
 // Lends memory that is enough for each. Of a sheet or trace that is too long, one byte too many is read.
-fn run(program: Program) -> i32 {
+fn run(rt: &(impl Print + Eprint), reader: &mut impl Read, program: Program) -> ExitCode {
     let mut input = [0u8; 16001];
     let mut pages = [0u32; 1000];
     let mut dir = [0u32; 4104];
     let mut answers = [0u32; 4000];
     let mut out = [0u8; 256256];
     answer(
+        rt,
+        reader,
         program,
         &mut input,
         &mut pages,
@@ -78,44 +90,45 @@ fn run(program: Program) -> i32 {
     )
 }
 
+// Whether a program was started with no argument behind the first.
+fn ends_there(rt: &impl Env) -> bool {
+    let mut text = [0u8; 1];
+    matches!(rt.arg(2, &mut text), Err(FillError::NotPresent))
+}
+
 // The one argument that a program was started with, as a unit. One of over 4,096 bytes is none.
-fn argument() -> records::Asked {
+fn argument(rt: &impl Env) -> records::Asked {
     let mut text = [0u8; 4096];
-    if os::arg_count() != 2 {
+    let Ok(n) = rt.arg(1, &mut text) else {
+        return records::Asked::NoUnit;
+    };
+    if !ends_there(rt) {
         return records::Asked::NoUnit;
     }
-    let n = os::arg(1, &mut text);
     records::unit_of(&text[..n])
 }
 
-fn usage() -> i32 {
-    io::write_all(
-        libc::STDERR_FILENO,
-        b"usage: spc UNIT <TRACE, where UNIT is a number of at most 4294967295\n",
-    );
-    2
+fn usage(rt: &impl Eprint) -> ExitCode {
+    let _ = eprintln!(rt; "usage: spc UNIT <TRACE, where UNIT is a number of at most 4294967295");
+    ExitCode::from(2)
 }
 
-// The programs, which c/main.c starts: their status.
-#[unsafe(no_mangle)]
-pub extern "C" fn score() -> i32 {
-    run(Program::Score)
+// The programs: their status.
+pub fn score(rt: &(impl Print + Eprint), reader: &mut impl Read) -> ExitCode {
+    run(rt, reader, Program::Score)
 }
 
-#[unsafe(no_mangle)]
-pub extern "C" fn ledger() -> i32 {
-    run(Program::Ledger)
+pub fn ledger(rt: &(impl Print + Eprint), reader: &mut impl Read) -> ExitCode {
+    run(rt, reader, Program::Ledger)
 }
 
-#[unsafe(no_mangle)]
-pub extern "C" fn copy() -> i32 {
-    run(Program::Copy)
+pub fn copy(rt: &(impl Print + Eprint), reader: &mut impl Read) -> ExitCode {
+    run(rt, reader, Program::Copy)
 }
 
-#[unsafe(no_mangle)]
-pub extern "C" fn spc() -> i32 {
-    let records::Asked::Unit(unit) = argument() else {
-        return usage();
+pub fn spc(rt: &(impl Print + Eprint + Env), reader: &mut impl Read) -> ExitCode {
+    let records::Asked::Unit(unit) = argument(rt) else {
+        return usage(rt);
     };
-    run(Program::Spc(unit))
+    run(rt, reader, Program::Spc(unit))
 }

@@ -2,6 +2,8 @@
 // council's traces. It prints what each call gave, and the gate compares that with the file stdout.
 #![tactic(auto)]
 
+use std::io;
+
 mod bid_sheets;
 mod copies;
 mod look_ups;
@@ -10,11 +12,11 @@ mod show;
 mod spc_answers;
 mod spc_traces;
 
-fn main() {
-    bid_sheets::all();
-    copies::all();
-    look_ups::all();
-    result_sheets::all();
-    spc_traces::all();
-    spc_answers::all();
+fn main(rt: HostRuntime) -> io::Result<()> {
+    bid_sheets::all(&rt)?;
+    copies::all(&rt)?;
+    look_ups::all(&rt)?;
+    result_sheets::all(&rt)?;
+    spc_traces::all(&rt)?;
+    spc_answers::all(&rt)
 }

@@ -1,40 +1,51 @@
 // What the cases share: a file's bytes, a named number, whether lent memory stayed, the pages that a call put in front
 // of it.
-ghost use Rattle.io.specs.Counts.{IsPrefixLen};
+ghost use Rattle.std.specs.Prelude.{◌≡◌, IfOk};
+ghost use Rattle.std.specs.Io.{ReadsAtMost};
+
+use std::rt::Runtime;
+use std::{fs, io};
 
 // Puts the file's bytes at the start of the buffer, and answers how many there are.
-pub fn load(name: &[u8], buffer: &mut [u8]) -> usize
-    ensures { IsPrefixLen result buffer.new }
+pub fn load(rt: &impl Runtime, name: &[u8], buffer: &mut [u8]) -> io::Result<usize>
+    ensures { ReadsAtMost result buffer.new }
 {
-    let fd = os::open_read(name);
-    if fd < 0 {
-        io::write_all(1, b"no file ");
-        return 0;
-    }
-    let read = streams::read_from(fd, name, buffer);
-    libc::close(fd);
-    let streams::Input::Came(n) = read else {
-        return 0;
+    let Ok(path) = str::from_utf8(name) else {
+        return no_file(rt);
     };
-    n
+    let Ok(mut file) = fs::open(rt, path) else {
+        return no_file(rt);
+    };
+    let streams::Input::Came(n) = streams::read_from(rt, &mut file, path, buffer) else {
+        return Ok(0);
+    };
+    Ok(n)
 }
 
-pub fn named_long(name: &[u8], n: u64) {
-    io::write_all(1, name);
-    io::print_decimal(1, n);
+fn no_file(rt: &impl Print) -> io::Result<usize>
+    ensures { IfOk result (λ n. n ≡ 0) }
+{
+    rt.write_all(b"no file ")?;
+    Ok(0)
 }
 
-pub fn named(name: &[u8], n: u32) {
-    named_long(name, n as u64);
+pub fn named_long(rt: &impl Runtime, name: &[u8], n: u64) -> io::Result<()> {
+    rt.write_all(name)?;
+    rt.print(n)
 }
 
-pub fn stayed(name: &[u8], same: bool) {
-    io::write_all(1, name);
+pub fn named(rt: &impl Runtime, name: &[u8], n: u32) -> io::Result<()> {
+    named_long(rt, name, n as u64)
+}
+
+pub fn stayed(rt: &impl Runtime, name: &[u8], same: bool) -> io::Result<()> {
+    rt.write_all(name)?;
     if same {
-        io::write_all(1, b"same");
+        rt.write_all(b"same")?;
     } else {
-        io::write_all(1, b"changed");
+        rt.write_all(b"changed")?;
     }
+    Ok(())
 }
 
 pub fn all_words(words: &[u32], value: u32) -> bool {
@@ -67,20 +78,21 @@ pub fn sum(words: &[u32]) -> u64 {
     let mut sum = 0;
     let mut i = 0;
     while i < words.len() {
-        sum = std::num::wrapping_add_u64(sum, wide(words[i]));
+        sum = sum.wrapping_add(wide(words[i]));
         i += 1;
     }
     sum
 }
 
 // The first and the last page and their sum, where there are pages, and whether all later words stayed as before.
-pub fn pages(pages: &[u32], count: usize, before: u32) {
+pub fn pages(rt: &impl Runtime, pages: &[u32], count: usize, before: u32) -> io::Result<()> {
     if count == 0 {
-        stayed(b" buffer=", all_words(pages, before));
+        stayed(rt, b" buffer=", all_words(pages, before))?;
     } else if count <= pages.len() {
-        named(b" first=", pages[0]);
-        named(b" last=", pages[count - 1]);
-        named_long(b" sum=", sum(&pages[0..count]));
-        stayed(b" rest=", all_words(&pages[count..], before));
+        named(rt, b" first=", pages[0])?;
+        named(rt, b" last=", pages[count - 1])?;
+        named_long(rt, b" sum=", sum(&pages[0..count]))?;
+        stayed(rt, b" rest=", all_words(&pages[count..], before))?;
     }
+    Ok(())
 }

@@ -7,6 +7,9 @@ mod sheet_calls;
 mod trace_calls;
 mod wire;
 
+use std::io::Read;
+use std::process::ExitCode;
+
 // What came of a call.
 #[derive(Drop)]
 enum Called {
@@ -17,6 +20,8 @@ enum Called {
 
 // A call that was read up to its operation: the rest is read, made and answered. False where that failed.
 fn answer(
+    rt: &(impl Print + Eprint),
+    input: &mut impl Read,
     op: u32,
     dir: &mut [u32],
     pages: &mut [u32],
@@ -26,19 +31,21 @@ fn answer(
     raw: &mut [u8],
 ) -> bool {
     match op {
-        1 => directory_calls::fresh(dir, raw),
-        2 => directory_calls::check(dir, raw),
-        3 => directory_calls::request(dir, raw),
-        4 => directory_calls::run(dir, pages, answers, raw),
-        5 => sheet_calls::read_bid(sheet, pages, raw),
-        6 => sheet_calls::look_up(sheet, raw),
-        7 => sheet_calls::write_result(out, raw),
-        8 => trace_calls::take_pages(sheet, pages, raw),
-        _ => wire::unreadable(),
+        1 => directory_calls::fresh(rt, input, dir, raw),
+        2 => directory_calls::check(rt, input, dir, raw),
+        3 => directory_calls::request(rt, input, dir, raw),
+        4 => directory_calls::run(rt, input, dir, pages, answers, raw),
+        5 => sheet_calls::read_bid(rt, input, sheet, pages, raw),
+        6 => sheet_calls::look_up(rt, input, sheet, raw),
+        7 => sheet_calls::write_result(rt, input, out, raw),
+        8 => trace_calls::take_pages(rt, input, sheet, pages, raw),
+        _ => wire::unreadable(rt),
     }
 }
 
 fn call(
+    rt: &(impl Print + Eprint),
+    input: &mut impl Read,
     dir: &mut [u32],
     pages: &mut [u32],
     answers: &mut [u32],
@@ -46,12 +53,12 @@ fn call(
     out: &mut [u8],
     raw: &mut [u8],
 ) -> Called {
-    let next = wire::read_op();
+    let next = wire::read_op(rt, input);
     match next {
         wire::Op::End => Called::End,
         wire::Op::Unreadable => Called::Failed,
         wire::Op::Is(op) => {
-            if answer(op, dir, pages, answers, sheet, out, raw) {
+            if answer(rt, input, op, dir, pages, answers, sheet, out, raw) {
                 Called::Answered
             } else {
                 Called::Failed
@@ -62,28 +69,29 @@ fn call(
 
 // Answers call after call; the program's status.
 fn calls(
+    rt: &(impl Print + Eprint),
+    input: &mut impl Read,
     dir: &mut [u32],
     pages: &mut [u32],
     answers: &mut [u32],
     sheet: &mut [u8],
     out: &mut [u8],
     raw: &mut [u8],
-) -> i32 {
+) -> ExitCode {
     let mut left: u32 = 100000;
     while left > 0 {
-        let called = call(dir, pages, answers, sheet, out, raw);
+        let called = call(rt, input, dir, pages, answers, sheet, out, raw);
         match called {
             Called::Answered => left -= 1,
-            Called::End => return 0,
-            Called::Failed => return 1,
+            Called::End => return ExitCode::SUCCESS,
+            Called::Failed => return ExitCode::FAILURE,
         }
     }
-    0
+    ExitCode::SUCCESS
 }
 
-// The program, which c/main.c starts: its status.
-#[unsafe(no_mangle)]
-pub extern "C" fn probe() -> i32 {
+fn main(rt: HostRuntime) -> ExitCode {
+    let mut input = rt.stdin();
     let mut dir = [0u32; 4200];
     let mut pages = [0u32; 1100];
     let mut answers = [0u32; 4500];
@@ -91,6 +99,8 @@ pub extern "C" fn probe() -> i32 {
     let mut out = [0u8; 400];
     let mut raw = [0u8; 68000];
     calls(
+        &rt,
+        &mut input,
         &mut dir,
         &mut pages,
         &mut answers,
