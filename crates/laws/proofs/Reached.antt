@@ -53,7 +53,9 @@ module _ (f : ℕ → Entry) where
     marks_made (suc n) x r =
         let other = ne_eqb (f x).page (x + suc n) (λ e. omega (arith, named x)) in
         let next : x + suc n ≡ suc x + n = omega arith in
-        rw (other, next, marks_made n (suc x) r)
+        let behind : mark (x + suc n) (made f (suc x) n ++ r) ≡ made f (suc x) n ++ mark (x + suc n) r =
+        rw next (marks_made n (suc x) r) in
+        rw (other, behind)
 
 -- While T1 alone holds pages: a new page comes to its tail, and a page of it is marked, where a hit marks it.
 module _ (policy c : ℕ) where

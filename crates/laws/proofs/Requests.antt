@@ -11,7 +11,7 @@ use Rattle.figures.specs.Directory.{Directory, place_new, cached}
 use Rattle.figures.specs.Hand.{Hand}
 use Rattle.figures.specs.Policy.{Policy}
 use Rattle.figures.specs.Request.{Served, still, evicted, missed, serve, request}
-use Rattle.figures.specs.Run.{Tally, run_from}
+use Rattle.figures.specs.Run.{Tally, noted, run_from}
 
 module _ (π : Policy) (x : ℕ) (d : Directory) where
   -- what a miss comes to, by whether the cache is full
@@ -99,7 +99,7 @@ after (x ∷ trace) d = after trace (request x d).dir
 pub run_after : (t : Tally) (trace : List ℕ) (d : Directory) → (run_from t trace d).dir ≡ after trace d
 unfolding run_from
 run_after t [] d = refl
-run_after t (x ∷ trace) d = run_after _ trace (request x d).dir
+run_after t (x ∷ trace) d = run_after (noted (request x d) t) trace (request x d).dir
 
 pub after_append : (a b : List ℕ) (d : Directory) → after (a ++ b) d ≡ after b (after a d)
 after_append [] b d = refl
