@@ -31,7 +31,7 @@ pub count_more : {w : List ℕ} {a : ℕ} {l : List Entry} {i : ℕ} → EntryAt
 count_more s flag says = rw (s.front, says s.here s.flags_word)
 
 -- What `find` says where list i of a directory is searched.
-module _ (d : Directory) {w : List ℕ} (is : Holds d w) (i : ℕ) (named : i ≤ 3) {a n x k : ℕ}
+module _ (d : Directory) {w : List ℕ} (is : Holds d w) (i : ℕ) (named : i ≤ 3) (x : ℕ) {a n k : ℕ}
     (found : FoundAt w a n x k) (start : a ≡ start_of i w) (size : n ≡ get_or w (4 + i) 0) where
   pub found_index : k ≡ index x (list_of (name_of i) d)
   found_index = told (list_held d w is i named) found.1 (sym start) (sym (length_of_list i d w is named) ∙ sym size)

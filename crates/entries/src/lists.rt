@@ -2,7 +2,7 @@
 // Lists are named by number in their order; list i + 2 is the history of list i.
 ghost use Rattle.std.specs.Prelude.{◌≡◌, ◌+◌, ◌≤◌, ◌<◌, length, get_or};
 ghost use Rattle.figures.specs.Entry.{cleared};
-ghost use Rattle.figures.specs.Directory.{T1, T2, place_new};
+ghost use Rattle.figures.specs.Directory.{T1 as FirstClock, T2 as SecondClock, place_new};
 ghost use Rattle.engine.specs.Shown.{Makes};
 ghost use Rattle.engine.specs.Heads.{head_to};
 ghost use Rattle.entries.specs.Holds.{Holds};
@@ -78,7 +78,7 @@ pub fn move_head(dir: &mut [u32], i: usize, j: usize, flags: u32)
 pub fn t2_head_to_t1(dir: &mut [u32])
     requires room { Room dir.old }
     requires bound { 1 ≤ get_or dir.old 5 0 }
-    ensures { Makes Holds (head_to T2 T1 cleared) dir.old dir.new }
+    ensures { Makes Holds (head_to SecondClock FirstClock cleared) dir.old dir.new }
 {
     let n1 = dir[header::T1_LENGTH];
     let n2 = dir[header::T2_LENGTH];
