@@ -77,9 +77,9 @@ module _ (s : List ℕ) {p : Place} where
 
 -- "Look-up: 7, then 8"
 module _ (s : List ℕ) (line : ℕ) where
-  pub too-long : {r : Span} → 16000 < ∣ s ∣ → r ≡ refusal sheet_too_long → SpanOf s (on_look_up s line) r
+  pub too_long : {r : Span} → 16000 < ∣ s ∣ → r ≡ refusal sheet_too_long → SpanOf s (on_look_up s line) r
   unfolding on_look_up
-  too-long h refused = rw (lt-ltb 16000 ∣ s ∣ h, refused) (refused_span s sheet_too_long)
+  too_long h refused = rw (lt-ltb 16000 ∣ s ∣ h, refused) (refused_span s sheet_too_long)
 
   pub looked_up : {p : Place} {r : Span} → ∣ s ∣ ≤ 16000 → value_from s 0 line ≡ p → SpanOf s (found_at p) r
       → SpanOf s (on_look_up s line) r

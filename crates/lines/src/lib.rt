@@ -98,6 +98,7 @@ fn value_in(sheet: &[u8], at: usize, end: usize) -> Span
 }
 
 // The look-up's number and place, for callers that want no part; line `n` starts at `at`.
+#[tactic(auto, using(crate::proofs::Spans::too_long))]
 pub fn span_of(sheet: &[u8], line: u32) -> Span
     ensures { SpanOf sheet.now (on_look_up sheet.now line) result }
 {

@@ -3,16 +3,13 @@ use Rattle.std.proofs.Common.{◌≡◌, ◌∙◌, refl, sym, ap, arith, suc, �
 use Rattle.lines.specs.Cursor.{line_at}
 use Rattle.lines.specs.declared.Line.TheVariants.{Missing}
 use Rattle.lines.proofs.Cursor.{ClosedAt, closed_line, missing_line}
-use Rattle.lines.proofs.Spans.{value_from, in_this_line, in_a_later_line, in_no_line, span_nowhere, too-long, looked_up}
+use Rattle.lines.proofs.Spans.{value_from, in_this_line, in_a_later_line, in_no_line, span_nowhere, looked_up}
 use Rattle.lines.proofs.span_of.Goals as goal
 use Rattle.lines.proofs.span_of.Goals.{In-Closed}
 
 -- The closed line that the cursor found.
 closed : (c : In-Closed) → ClosedAt c.args.sheet.now c.loop-n.at c.in-Closed.end
 closed c = closed_line _ _ _ (sym c.in-Closed.ensures)
-
-pub returns-then-sheet-gt-MOST_SHEET_BYTES : goal.returns-then-sheet-gt-MOST_SHEET_BYTES
-returns-then-sheet-gt-MOST_SHEET_BYTES c = too-long _ _ (omega arith) c.refused.ensures
 
 pub returns-in_default : goal.returns-in_default
 returns-in_default c =
