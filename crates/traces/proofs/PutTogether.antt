@@ -17,9 +17,10 @@ use Rattle.terms.specs.Refusals.{no_such_line}
 use Rattle.terms.proofs.Tests.{reads}
 use Rattle.text.specs.Text.{bytes, starts}
 use Rattle.text.specs.Digits.{all_digits}
-use Rattle.sheets.specs.Number.{Value, means, wrong}
+use Rattle.sheets.specs.Number.{Value, means, wrong, whole, miss_cost}
 use Rattle.sheets.specs.Lines.{Lines, end, unclosed, line, line_feed, behind, lines, Reading, good, bad, before, under}
-use Rattle.sheets.specs.Bid.{Bid, Meaning, bid, refused, policy_line, size_line, cost_line, page_line}
+use Rattle.sheets.specs.Bid.{Bid, Meaning, bid, refused, policy_value, policy_meant, policy_line, in_range, size_line}
+use Rattle.sheets.specs.Bid.{cost_line, page_line}
 use Rattle.sheets.specs.Bid.{Pages, listed, refused_at, onto, pages_from, with_pages, after_line, in_order, meaning_where}
 use Rattle.sheets.specs.Result.{decimal, line_of}
 use Rattle.sheets.proofs.Numbers.{digits_of, whole_back}
@@ -132,7 +133,10 @@ module _ (pages : List ℕ) (after : Lines) (listing : pages_from 0 after ≡ li
   in-order : (blankIs : Value) → TakesTrace (in_order blankIs)
   unfolding in_order policy_line size_line cost_line
   in-order blankIs =
-      at_line 1 _ _ _ (λ policy. at_line 2 _ _ _ (λ c. at_line 3 _ _ _ (λ cost. at_pages policy c cost)))
+      at_line 1 (bytes "policy=") (λ s. policy_meant blankIs (policy_value s)) _ (λ policy.
+      at_line 2 (bytes "pages=") (λ s. in_range (whole s)) _ (λ c.
+      at_line 3 (bytes "misscost=") miss_cost _ (λ cost.
+      at_pages policy c cost)))
 
 pub sheets_put_together : SheetsPutTogether
 unfolding meaning_where
