@@ -3,8 +3,8 @@
 #![tactic(auto)]
 
 ghost use Rattle.std.specs.Prelude.{◌≡◌, true, ◌+◌, ◌*◌, ◌≤◌, length};
-ghost use Rattle.text.specs.Digits.{all_digits, value as Digits·value};
-ghost use Rattle.sheets.specs.Number.{digits_form, whole as Number·whole, miss_cost};
+ghost use Rattle.text.specs.Digits.{all_digits, value as worth};
+ghost use Rattle.sheets.specs.Number.{digits_form, whole as meaning, miss_cost};
 ghost use Rattle.numbers.specs.Meant.{meant};
 
 use text::digits;
@@ -28,15 +28,15 @@ fn in_form(text: &[u8], most: usize) -> bool
 
 // What digits are worth: ten of them fit.
 fn value(text: &[u8]) -> u64
-    requires text_value { all_digits text.now ≡ true }
-    requires text_len_bound { length text.now ≤ 10 }
-    ensures { result ≡ Digits·value text.now }
+    requires digits { all_digits text.now ≡ true }
+    requires at_most_ten { length text.now ≤ 10 }
+    ensures { result ≡ worth text.now }
 {
     digits::value_at_most(text, 9999999999)
 }
 
 pub fn whole(text: &[u8]) -> Number
-    ensures { meant result ≡ Number·whole text.now }
+    ensures { meant result ≡ meaning text.now }
 {
     if !in_form(text, 10) {
         return Number::NotInForm;
@@ -50,9 +50,9 @@ pub fn whole(text: &[u8]) -> Number
 
 // Milliseconds and the three digits behind them, in thousandths.
 fn thousandths(before: &[u8], after: &[u8]) -> u32
-    requires before_value { (all_digits before.now ≡ true) × (length before.now ≤ 4) }
-    requires after_value { (all_digits after.now ≡ true) × (length after.now ≤ 3) }
-    ensures { result ≡ 1000 * Digits·value before.now + Digits·value after.now }
+    requires four_before { (all_digits before.now ≡ true) × (length before.now ≤ 4) }
+    requires three_after { (all_digits after.now ≡ true) × (length after.now ≤ 3) }
+    ensures { result ≡ 1000 * worth before.now + worth after.now }
 {
     (1000 * value(before) + value(after)) as u32
 }
