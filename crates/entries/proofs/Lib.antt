@@ -3,9 +3,8 @@
 -- In order: a stretch of words while it is turned or a word is put in (`Shifts`); the words at which the lists start
 -- (`Starts`); the words in parts, whichever list is changed (`Laid`); an entry moved among the listed ones (`Moving`);
 -- where a page stands in a list (`Indexes`); what each leaf of lists.rt leaves (`Changes`); entries read in the words
--- (`Reading`), searched and counted (`Searching`); words that are at most m (`Bounds`); a flags word (`Flagged`); the
--- head of a list (`Heads`); the target (`TargetWords`); room in the words (`Rooms`); a page that comes back
--- (`ComingBack`).
+-- (`Reading`), searched and counted (`Searching`); words that are at most m (`Bounds`); the head of a list (`Heads`);
+-- room in the words (`Rooms`); a page that comes back (`ComingBack`).
 --
 -- Not here: that words decode to the directory that they encode, and the lengths of lists (Encoding and Lists of the
 -- crate laws); looks, passes and trims, which are of any engine (the crate engine); CAR's and CART's own (car, cart).
@@ -18,8 +17,6 @@ pub mod Changes
 pub mod Reading
 pub mod Searching
 pub mod Bounds
-pub mod Flagged
 pub mod Heads
-pub mod TargetWords
 pub mod Rooms
 pub mod ComingBack

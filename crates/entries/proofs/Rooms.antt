@@ -5,7 +5,6 @@ use mathlib.Core.Bool.{true}
 use mathlib.Core.List.{List}
 use Prim.Native.Nat.{ℕ, ◌+◌, ◌*◌, ◌≤◌}
 use native.Mathlib.Omega.{arith}
-use lib.ListN.{set, length-set}
 use Rattle.terms.specs.Choice.{∣◌∣}
 use Rattle.figures.specs.Directory.{Directory, cached, remembered}
 use Rattle.figures.specs.Words.{encode, decode}
@@ -16,19 +15,11 @@ use Rattle.laws.proofs.Soundness.{facts_of_words}
 use Rattle.entries.specs.Holds.{Holds}
 use Rattle.entries.specs.Stretches.{Room, start_of}
 use Rattle.entries.specs.Returning.{Full, Freed}
-use Rattle.entries.proofs.Laid.{header, length_with_p}
+use Rattle.entries.proofs.Laid.{header}
 
 -- Lists that fit leave room.
 pub roomy : (d : Directory) {w : List ℕ} → Holds d w → cached d + remembered d ≤ 2 * d.c → d.c ≤ 1024 → Room w
 roomy d is fits small = let n = words_fit d fits in subst Room is (record { short = omega arith; held = omega arith })
-
--- Another target leaves the same room.
-pub room_with_p : {w : List ℕ} (p : ℕ) → Room w → Room (set w 2 p)
-room_with_p {w} p room =
-    let same = length_with_p w p in record {
-      short = simp length-set room.short;
-      held = simp length-set (omega (arith, same 0, same 1, same 2, same 3, room.held));
-    }
 
 -- Sound words whose cache is full: what the laws of the definitions ask of them.
 pub record Filled (policy : ℕ) (w : List ℕ) : Type 0 where

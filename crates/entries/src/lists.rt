@@ -60,7 +60,7 @@ pub fn find(dir: &[u32], i: usize, page: u32) -> usize
 // The head of list i, with new flags, becomes the tail of list j, which is the same list or a later one.
 pub fn move_head(dir: &mut [u32], i: usize, j: usize, flags: u32)
     requires room { Room dir.old }
-    requires i_bound { (i ≤ 1) × (i ≤ j) × (j ≤ 3) × (1 ≤ get_or dir.old (4 + i) 0) }
+    requires clock_has_head { (i ≤ 1) × (i ≤ j) × (j ≤ 3) × (1 ≤ get_or dir.old (4 + i) 0) }
     ensures { HeadMoved i j flags dir.old dir.new }
 {
     let a = start_of(dir, i);
@@ -77,7 +77,7 @@ pub fn move_head(dir: &mut [u32], i: usize, j: usize, flags: u32)
 // T2's head, its bit cleared, becomes T1's tail: only the border between them moves.
 pub fn t2_head_to_t1(dir: &mut [u32])
     requires room { Room dir.old }
-    requires bound { 1 ≤ get_or dir.old 5 0 }
+    requires t2_has_head { 1 ≤ get_or dir.old 5 0 }
     ensures { Makes Holds (head_to SecondClock FirstClock cleared) dir.old dir.new }
 {
     let n1 = dir[header::T1_LENGTH];
@@ -91,7 +91,7 @@ pub fn t2_head_to_t1(dir: &mut [u32])
 // A new page becomes T1's tail.
 pub fn place_new(dir: &mut [u32], page: u32)
     requires room { Room dir.old }
-    requires dir_in_bounds { start_of 4 dir.old + 2 ≤ length dir.old }
+    requires room_for_one { start_of 4 dir.old + 2 ≤ length dir.old }
     ensures { Makes Holds (place_new page) dir.old dir.new }
 {
     let a = start_of(dir, T2);
@@ -104,7 +104,7 @@ pub fn place_new(dir: &mut [u32], page: u32)
 // Entry k of the history b, which is for page, becomes the tail of list t with new flags.
 pub fn come_back(dir: &mut [u32], b: usize, k: usize, t: usize, page: u32, flags: u32)
     requires room { Room dir.old }
-    requires t_bound { (t ≤ 1) × (2 ≤ b) × (b ≤ 3) × (k < get_or dir.old (4 + b) 0) }
+    requires from_history { (t ≤ 1) × (2 ≤ b) × (b ≤ 3) × (k < get_or dir.old (4 + b) 0) }
     ensures { CameBack b k t page flags dir.old dir.new }
 {
     let a = start_of(dir, t + 1);
@@ -119,7 +119,7 @@ pub fn come_back(dir: &mut [u32], b: usize, k: usize, t: usize, page: u32, flags
 // The head of list b is dropped.
 pub fn drop_head(dir: &mut [u32], b: usize)
     requires room { Room dir.old }
-    requires b_bound { (b ≤ 3) × (1 ≤ get_or dir.old (4 + b) 0) }
+    requires has_head { (b ≤ 3) × (1 ≤ get_or dir.old (4 + b) 0) }
     ensures { ListHeadDropped b dir.old dir.new }
 {
     let a = start_of(dir, b);
@@ -132,7 +132,7 @@ pub fn drop_head(dir: &mut [u32], b: usize)
 // The reference bit of entry k of T1 and T2 together is set.
 pub fn mark(dir: &mut [u32], k: usize)
     requires room { Room dir.old }
-    requires k_bound { k < get_or dir.old 4 0 + get_or dir.old 5 0 }
+    requires k_cached { k < get_or dir.old 4 0 + get_or dir.old 5 0 }
     ensures { Marked k dir.old dir.new }
 {
     let at = header::ENTRIES + 2 * k + 1;

@@ -18,7 +18,7 @@ pub struct Return {
 // The page from B1 or B2, and the answer's kind. A page in neither history is new, and nothing changes.
 pub fn come_back(dir: &mut [u32], page: u32, to: Return) -> u32
     requires freed { Freed dir.old }
-    requires tail_bound { (to.tail ≤ 1) × (to.b1 ≤ 2048) × (to.b2 ≤ 2048) }
+    requires return_fits { (to.tail ≤ 1) × (to.b1 ≤ 2048) × (to.b2 ≤ 2048) }
     ensures { Returns page to dir.old result dir.new }
 {
     let k = lists::find(dir, lists::B1, page);

@@ -18,8 +18,8 @@ pub fn t1_at_target(dir: &[u32]) -> bool
 
 // Line 15: the target that a page found in B1 asks for.
 pub fn raised(dir: &[u32], dividend: u32) -> u32
-    requires in_bounds { (8 ≤ length dir.now) × (1 ≤ n_b1 dir.now) × (dividend ≤ 2048) }
-    requires dir_bound { (size dir.now ≤ 1024) × (get_or dir.now 2 0 ≤ unit * 1024) }
+    requires b1_not_empty { (8 ≤ length dir.now) × (1 ≤ n_b1 dir.now) × (dividend ≤ 2048) }
+    requires target_fits { (size dir.now ≤ 1024) × (get_or dir.now 2 0 ≤ unit * 1024) }
     ensures { (d : Directory) → Holds d dir.now → result ≡ raised_target dividend d }
 {
     let step = amounts::quotient(UNIT * dividend, dir[header::B1_LENGTH]);

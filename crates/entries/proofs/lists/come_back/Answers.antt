@@ -5,5 +5,5 @@ use Rattle.entries.proofs.lists.come_back.Goals as goal
 
 pub returns : goal.returns
 returns c d e' is here page new =
-    let h = c.requires.t_bound in
+    let h = c.requires.from_history in
     page_to_tail d e' h.0 h.1 h.2 is h.3 here page new c.start_of-a.ensures (omega arith) c.put_in.ensures

@@ -4,4 +4,4 @@ use Rattle.entries.proofs.Changes.{new_at_tail}
 use Rattle.entries.proofs.lists.place_new.Goals as goal
 
 pub returns : goal.returns
-returns c d is = new_at_tail d is c.requires.dir_in_bounds c.start_of-a.ensures (omega arith) c.put_in.ensures
+returns c d is = new_at_tail d is c.requires.room_for_one c.start_of-a.ensures (omega arith) c.put_in.ensures
