@@ -1,6 +1,6 @@
 -- The field at a place of a line, by the place of the first comma from there on; and the record by one field after the
 -- other, where a comma closes the first four.
-use mathlib.Core.Path.{◌≡◌, ap, ◌∙◌}
+use mathlib.Core.Path.{◌≡◌, ◌∙◌}
 use mathlib.Core.List.{List}
 use Prim.Native.Nat.{ℕ, ◌+◌, ◌-◌, ◌≤◌, ◌<◌}
 use native.Mathlib.Nat.{sub-zero}
@@ -11,8 +11,7 @@ use Rattle.terms.specs.Choice.{∣◌∣}
 use Rattle.text.specs.Bytes.{index_of}
 use Rattle.sheets.specs.Number.{comma}
 use Rattle.sheets.proofs.Places.{place_at_most}
-use Rattle.traces.specs.Fields.{field, fields}
-use Rattle.traces.specs.Record.{not_in_form, record_from, of_fields, record_of}
+use Rattle.traces.specs.Record.{record_from, record_of}
 use Rattle.traces.proofs.Fields.{fields_closed, fields_last, first_field}
 use Rattle.records.specs.Answers.{FieldFrom}
 use Rattle.records.specs.declared.Field.TheVariants.{Closed, Last}
@@ -38,37 +37,11 @@ module _ {s : List ℕ} {at : ℕ} (stop : ℕ) (inside : at ≤ ∣ s ∣) (fou
 abbrev between : ℕ → ℕ → List ℕ → List ℕ
 between at stop s = take (stop - at) (drop at s)
 
-module _ {s : List ℕ} where
-  pub one_field : FieldFrom s 0 Last → record_of s ≡ not_in_form
-  one_field h = ap of_fields h.reads_as
-
-  module _ {a : ℕ} (unit : FieldFrom s 0 (Closed a)) where
-    from-second : fields s ≡ field (between 0 a s) (fields (drop (a + 1) s))
-    from-second = unit.reads_as
-
-    pub two_fields : FieldFrom s (a + 1) Last → record_of s ≡ not_in_form
-    two_fields h = rw (from-second, h.reads_as)
-
-    module _ {b : ℕ} (lba : FieldFrom s (a + 1) (Closed b)) where
-      from-third : fields s
-          ≡ field (between 0 a s) (field (between (a + 1) b s) (fields (drop (b + 1) s)))
-      from-third = rw (from-second, lba.reads_as)
-
-      pub three_fields : FieldFrom s (b + 1) Last → record_of s ≡ not_in_form
-      three_fields h = rw (from-third, h.reads_as)
-
-      module _ {c : ℕ} (size : FieldFrom s (b + 1) (Closed c)) where
-        from-fourth : fields s ≡ field (between 0 a s) (field (between (a + 1) b s)
-            (field (between (b + 1) c s) (fields (drop (c + 1) s))))
-        from-fourth = rw (from-third, size.reads_as)
-
-        pub four_fields : FieldFrom s (c + 1) Last → record_of s ≡ not_in_form
-        four_fields h = rw (from-fourth, h.reads_as)
-
-        pub five_fields : {d : ℕ} → FieldFrom s (c + 1) (Closed d) → (stop : ℕ)
-            → stop ≡ d + 1 + index_of comma (drop (d + 1) s)
-            → record_of s ≡ record_from (take a s) (between (a + 1) b s) (between (b + 1) c s) (between (c + 1) d s)
-            (between (d + 1) stop s)
-        five_fields {d} letter stop found =
-            let width : stop - (d + 1) ≡ index_of comma (drop (d + 1) s) = omega arith in
-            rw (from-fourth, letter.reads_as, first_field, width, sub-zero)
+pub five_fields : {s : List ℕ} {a b c d : ℕ} → FieldFrom s 0 (Closed a) → FieldFrom s (a + 1) (Closed b)
+    → FieldFrom s (b + 1) (Closed c) → FieldFrom s (c + 1) (Closed d) → (stop : ℕ)
+    → stop ≡ d + 1 + index_of comma (drop (d + 1) s)
+    → record_of s ≡ record_from (take a s) (between (a + 1) b s) (between (b + 1) c s) (between (c + 1) d s)
+    (between (d + 1) stop s)
+five_fields {s} {d = d} unit lba size letter stop found =
+    let width : stop - (d + 1) ≡ index_of comma (drop (d + 1) s) = omega arith in
+    rw (unit.reads_as, lba.reads_as, size.reads_as, letter.reads_as, first_field, width, sub-zero)

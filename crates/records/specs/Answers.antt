@@ -6,13 +6,9 @@ use Rattle.traces.specs.Fields.{Fields, field, last, fields}
 use Rattle.traces.specs.Record as Line
 use Rattle.traces.specs.Record.{reads, writes, unknown, read, write, not_in_form, unit, no_unit}
 use Rattle.records.specs.declared.Field.{Field}
-use Rattle.records.specs.declared.Field.TheVariants as Field
 use Rattle.records.specs.declared.Opcode.{Opcode}
-use Rattle.records.specs.declared.Opcode.TheVariants as Opcode
 use Rattle.records.specs.declared.Record.{Record}
-use Rattle.records.specs.declared.Record.TheVariants as Record
 use Rattle.records.specs.declared.Asked.{Asked}
-use Rattle.records.specs.declared.Asked.TheVariants as Asked
 
 -- A FIELD
 

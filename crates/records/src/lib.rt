@@ -41,6 +41,7 @@ pub enum Field {
     Last,
 }
 
+#[tactic(auto, unfolding(traces::specs::Record::is_integer))]
 fn is_integer(text: &[u8]) -> bool
     ensures { result ≡ is_integer text.now }
 {
@@ -82,6 +83,7 @@ fn field_from(line: &[u8], at: usize) -> Field
 }
 
 // The five fields that a record has to have.
+#[tactic(auto, using(crate::proofs::Integers::integer_digits), unfolding(traces::specs::Record::record_from))]
 fn record_from(unit: &[u8], lba: &[u8], size: &[u8], letter: &[u8], timestamp: &[u8]) -> Record
     ensures { result ≡ up_to_beyond (record_from unit.now lba.now size.now
         letter.now timestamp.now) }
@@ -128,6 +130,7 @@ pub fn record_of(line: &[u8]) -> Record
 }
 
 // The unit that somebody asks for, in the form of a record's.
+#[tactic(auto, using(crate::proofs::Integers::integer_digits), unfolding(traces::specs::Record::asked))]
 pub fn unit_of(text: &[u8]) -> Asked
     ensures { asked_case result ≡ asked text.now }
 {
