@@ -9,7 +9,6 @@ use Rattle.engine.specs.Choosing.{Turning, EndsFrom}
 use Rattle.engine.proofs.Choosing.{turned_once}
 use Rattle.entries.specs.Holds.{Holds}
 use Rattle.car.specs.declared.Looked.{Looked}
-use Rattle.car.specs.declared.Looked.TheVariants as Looked
 use Rattle.car.specs.Looking.{GoesOn, LooksFrom}
 
 -- No look has been made yet.

@@ -6,7 +6,6 @@ use Rattle.engine.specs.declared.Evicted.{Evicted}
 use Rattle.engine.specs.Choosing.{Turning, EndsFrom}
 use Rattle.entries.specs.Holds.{Holds}
 use Rattle.car.specs.declared.Looked.{Looked}
-use Rattle.car.specs.declared.Looked.TheVariants as Looked
 
 -- The words w' may be looked at, and where the repeat from them ends, there that from w ends.
 pub record GoesOn (w : List ℕ) (k : Hand) (w' : List ℕ) (k' : Hand) : Type 0 where

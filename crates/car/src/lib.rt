@@ -51,8 +51,8 @@ fn choose(dir: &mut [u32], hand: engine::Hand, left: u32) -> Looked
 fn look(dir: &mut [u32], i: usize, hand: engine::Hand, left: u32) -> Looked
     requires room { Room dir.old }
     requires turning { Turning Holds dir.old hand }
-    requires i_bound { (i ≤ 1) × Chosen Holds (name_of i) dir.old }
-    requires le_left { 1 ≤ left }
+    requires i_chosen { (i ≤ 1) × Chosen Holds (name_of i) dir.old }
+    requires some_left { 1 ≤ left }
     ensures { LooksFrom left dir.old hand result dir.new }
 {
     let at = lists::start_of(dir, i);
@@ -97,7 +97,7 @@ pub fn evict(dir: &mut [u32]) -> engine::Evicted
 // Lines 6 to 10, for a page in neither history.
 fn trim(dir: &mut [u32])
     requires freed { Freed dir.old }
-    requires dir_bound { n_t1 dir.old + n_b1 dir.old ≤ size dir.old }
+    requires t1_b1_fit { n_t1 dir.old + n_b1 dir.old ≤ size dir.old }
     ensures { Makes Holds Car.trim dir.old dir.new }
 {
     let c = dir[header::SIZE];
@@ -115,7 +115,7 @@ fn trim(dir: &mut [u32])
 // Lines 6 to 20: the page from B1, from B2, or new; the answer's kind.
 fn place(dir: &mut [u32], page: u32) -> u32
     requires freed { Freed dir.old }
-    requires dir_bound { n_t1 dir.old + n_b1 dir.old ≤ size dir.old }
+    requires t1_b1_fit { n_t1 dir.old + n_b1 dir.old ≤ size dir.old }
     ensures { (h : Hand) → Holds h.dir dir.old
         → PlacedAs Holds car_policy page h result dir.new }
 {
