@@ -17,7 +17,7 @@ use terms::{limits, policies, refusals};
 const LEAST: usize = limits::LEAST_RESULT_BYTES;
 
 // What the sheet says, the wait in thousandths of a millisecond.
-#[derive(Drop)]
+#[derive(Clone, Copy)]
 pub struct Outcome {
     pub policy: u32,
     pub pages: u32,
@@ -190,6 +190,7 @@ pub fn write(out: &mut [u8], outcome: Outcome) -> Written
 }
 
 // The two lines of a refused bid sheet. Refusal 6.
+#[tactic(auto, using(crate::proofs::Refused::text_short))]
 pub fn write_refusal(out: &mut [u8], number: u32, line: u32) -> Written
     ensures { WroteRefusal number line out.old result out.new }
 {
@@ -228,6 +229,7 @@ fn put_request(
 }
 
 // A ledger's line of one request and its answer. Refusal 6.
+#[tactic(auto, using(crate::proofs::Refused::text_short))]
 pub fn write_request(
     out: &mut [u8],
     request: u32,
