@@ -1,11 +1,9 @@
 -- Looks one after another: from where one has led to, the next go on.
-use mathlib.Core.Path.{◌≡◌, subst}
 use mathlib.Core.List.{List}
-use Prim.Native.Nat.{ℕ, ◌+◌, ◌-◌, ◌≤◌}
+use Prim.Native.Nat.{ℕ, ◌-◌, ◌≤◌}
 use native.Mathlib.Omega.{arith}
 use Rattle.engine.specs.declared.Hand.{Hand}
-use Rattle.engine.specs.declared.Evicted.{Evicted}
-use Rattle.engine.specs.Choosing.{Turning, EndsFrom}
+use Rattle.engine.specs.Choosing.{Turning}
 use Rattle.engine.proofs.Choosing.{turned_once}
 use Rattle.entries.specs.Holds.{Holds}
 use Rattle.car.specs.declared.Looked.{Looked}
@@ -23,12 +21,3 @@ pub looks_after : {w w₁ : List ℕ} {k : Hand} {left : ℕ} → 1 ≤ left →
     → (r : Looked) (w₂ : List ℕ) → LooksFrom (left - 1) w₁ (turned_once k) r w₂ → LooksFrom left w k r w₂
 looks_after some first (Looked.Stopped out) w₂ then = (first.rest then.0, omega (arith, then.1))
 looks_after some first (Looked.Again k') w₂ then = (goes_on_after first then.0, omega (arith, then.1))
-
--- By the answer that was found.
-module _ (left : ℕ) {w w' : List ℕ} {k : Hand} {r : Looked} where
-  pub looks_ended : {out : Evicted} → r ≡ Looked.Stopped out → LooksFrom left w k r w' → EndsFrom Holds w k out w'
-  looks_ended is looked = (subst (λ (r : Looked). LooksFrom left w k r w') is looked).0
-
-  pub looks_went_on : {k' : Hand} → r ≡ Looked.Again k' → LooksFrom left w k r w'
-      → GoesOn w k w' k' × (k'.moves ≡ k.moves + left)
-  looks_went_on is looked = subst (λ (r : Looked). LooksFrom left w k r w') is looked

@@ -42,9 +42,6 @@ header d w is =
 pub with-p : (d : Directory) {w : List ℕ} {p p' : ℕ} → Holds d w → p ≡ p' → Holds (with_p p' d) (set w 2 p)
 with-p d {w} {p} is same = ap (λ (n : ℕ). encode (with_p n d)) (sym same) ∙ ap (λ (l : List ℕ). set l 2 p) is
 
-pub length_with_p : (w : List ℕ) (p i : ℕ) → get_or (set w 2 p) (4 + i) 0 ≡ get_or w (4 + i) 0
-length_with_p w p i = get_or-set_other w 2 (4 + i) p 0 (λ e. omega arith)
-
 pub with-q : (d : Directory) {w : List ℕ} {q q' : ℕ} → Holds d w → q ≡ q' → Holds (with_q q' d) (set w 3 q)
 with-q d {w} {q} is same = ap (λ (n : ℕ). encode (with_q n d)) (sym same) ∙ ap (λ (l : List ℕ). set l 3 q) is
 
