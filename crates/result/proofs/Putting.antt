@@ -61,26 +61,10 @@ room_as {w} {a = a} same room = subst (λ (x : List ℕ). PutFits w a x) same ro
 pub room_both : {w : List ℕ} {a : ℕ} (x y : List ℕ) → PutFits w a (x ++ y) → a + (∣ x ∣ + ∣ y ∣) ≤ ∣ w ∣
 room_both x y room = omega (arith, length-append x y)
 
--- A line: its key, its value, a line feed; or its key and value together, a line feed.
-module _ {w w₁ key value : List ℕ} {a b : ℕ} where
-  pub value_room : Put w a key w₁ b → PutFits w a (line_of key value) → PutFits w₁ b value
-  value_room first room = let parts = simp length-append at room.fits in omega (arith, first)
-
-  pub line_put : {w₂ w₃ : List ℕ} {c d : ℕ}
-      → Put w a key w₁ b → Put w₁ b value w₂ c → Put w₂ c (line_feed ∷ []) w₃ d → Put w a (line_of key value) w₃ d
-  line_put first second third = both first (both second third)
-
-module _ {w : List ℕ} {a : ℕ} (key value : List ℕ) where
-  pub feed_room : PutFits w a (line_of key value) → a + (∣ key ++ value ∣ + 1) ≤ ∣ w ∣
-  feed_room room = let parts = simp length-append at room.fits in simp length-append (omega arith)
-
-  pub feed_put : {w₁ w₂ : List ℕ} {b c : ℕ}
-      → Put w a (key ++ value) w₁ b → Put w₁ b (line_feed ∷ []) w₂ c → Put w a (line_of key value) w₂ c
-  feed_put first second = put_as (sym (append_assoc key value (line_feed ∷ []))) (both first second)
-
--- With a line feed behind it, what is put is one byte longer.
-pub with_feed : {w x w' : List ℕ} {a b : ℕ} → Put w a x w' b → ∣ x ++ (line_feed ∷ []) ∣ ≡ ∣ x ∣ + 1
-with_feed {x = x} p = length-append x (line_feed ∷ [])
+-- A line: its key, its value, a line feed.
+pub line_put : {w w₁ w₂ w₃ key value : List ℕ} {a b c d : ℕ}
+    → Put w a key w₁ b → Put w₁ b value w₂ c → Put w₂ c (line_feed ∷ []) w₃ d → Put w a (line_of key value) w₃ d
+line_put first second third = both first (both second third)
 
 -- What is put from the front on stands over the buffer.
 pub put_over : {w x w' : List ℕ} {n : ℕ} → Put w 0 x w' n → w' ≡ over x w
