@@ -1,4 +1,3 @@
--- In order: what a run learns of its tally, and what the walks by hand of `note` and `counted` share.
+-- What a run learns of its tally.
 -- Not here: what a tally is and how an answer is noted in it (specs/Note, and Run of the crate figures).
 pub mod Tallies
-pub mod Walk

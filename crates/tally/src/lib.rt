@@ -1,5 +1,5 @@
 // The running tally of a run: a by-value core, and a thin function that a tally is lent to.
-// `counted` lends a tally of its own, so that a loop over it needs no walk by hand.
+// `counted` lends a tally of its own, so that a loop carries its tally by value.
 #![tactic(auto)]
 
 ghost use Rattle.std.specs.Prelude.{◌≡◌, ◌≤◌};
@@ -9,7 +9,7 @@ use engine::kinds;
 
 // Laid out as C has it: exports hands it to C.
 #[repr(C)]
-#[derive(Drop)]
+#[derive(Clone, Copy)]
 pub struct Tally {
     pub requests: u32,
     pub hits: u32,
