@@ -49,9 +49,9 @@ has_by_index x l = go (ltb (index x l) ∣ l ∣) refl
     go false e = index_lacks x l (ltb-false _ _ e)
 
 -- A page that is searched for behind entry i stands there if it is found.
-pub searched : (i : ℕ) {w : List ℕ} {a n from many k x : ℕ} {l : List Entry} → Held w a l → length l ≡ n → i < n
+pub searched : (i x : ℕ) {w : List ℕ} {a n from many k : ℕ} {l : List Entry} → Held w a l → length l ≡ n → i < n
     → FoundAt w from many x k → from ≡ a + 2 * i + 2 → many ≡ n - i - 1 → has x (drop (i + 1) l) ≡ ltb k many
-searched i {many = many} {x = x} {l = l} h is inside found starts ends =
+searched i x {many = many} {l = l} h is inside found starts ends =
     let as_many : length (drop (i + 1) l) ≡ many = simp length-drop (omega arith) in
     let place = told (held_from h (i + 1) (omega arith)) found.1 (omega arith) as_many in
     rw (place, ← as_many) (has_by_index x (drop (i + 1) l))
