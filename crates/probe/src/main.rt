@@ -90,8 +90,8 @@ fn calls(
     ExitCode::SUCCESS
 }
 
-fn main(rt: HostRuntime) -> ExitCode {
-    let mut input = rt.stdin();
+// Lends memory that is enough for each call; the program's status.
+fn probe(rt: &(impl Print + Eprint), input: &mut impl Read) -> ExitCode {
     let mut dir = [0u32; 4200];
     let mut pages = [0u32; 1100];
     let mut answers = [0u32; 4500];
@@ -99,8 +99,8 @@ fn main(rt: HostRuntime) -> ExitCode {
     let mut out = [0u8; 400];
     let mut raw = [0u8; 68000];
     calls(
-        &rt,
-        &mut input,
+        rt,
+        input,
         &mut dir,
         &mut pages,
         &mut answers,
@@ -108,4 +108,9 @@ fn main(rt: HostRuntime) -> ExitCode {
         &mut out,
         &mut raw,
     )
+}
+
+fn main(rt: HostRuntime) -> ExitCode {
+    let mut stdin = rt.stdin();
+    probe(&rt, &mut stdin)
 }
