@@ -8,7 +8,7 @@ pub const BIT: u32 = 1;
 
 pub const LONG: u32 = 2;
 
-// All flags at once: mostFlags of figures/specs/Words.
+// All flags at once: most_flags of figures/specs/Words.
 pub const MOST: u32 = 3;
 
 // The flags of a page that is new or comes back: its bit clear, and S or L.
