@@ -2,11 +2,11 @@
 // Each count is a type of its own, so that neither fits where the other belongs.
 
 // n_S, the S pages of T1 and T2.
-#[derive(Drop)]
+#[derive(Clone, Copy)]
 pub struct ShortCount(pub u32);
 
 // n_L, the L pages of T1 and T2.
-#[derive(Drop)]
+#[derive(Clone, Copy)]
 pub struct LongCount(pub u32);
 
 #[derive(Drop)]
