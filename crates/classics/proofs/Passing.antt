@@ -25,7 +25,7 @@ use Rattle.entries.specs.Flags.{Says, Becomes}
 use Rattle.entries.specs.Leaves.{HeadMoved}
 use Rattle.entries.specs.Stretches.{Room}
 use Rattle.entries.proofs.Laid.{header}
-use Rattle.entries.proofs.Heads.{head_inside, flags_read, head_moved}
+use Rattle.entries.proofs.Heads.{flags_read, head_moved}
 use Rattle.entries.proofs.Rooms.{Filled, filled, roomy}
 use Rattle.classics.specs.Queues.{FullQueue, Led, Passed}
 
@@ -63,9 +63,6 @@ module _ {w v : List ℕ} {moves : ℕ} (l : Led w moves v) where
 
   pub some : 1 ≤ get_or v 4 0
   some = omega (arith, l.queue, header d v l.shown)
-
-  pub inside : 10 ≤ ∣ v ∣
-  inside = head_inside {i = 0} (omega arith) some refl room
 
   front : d.t1 ≡ front_of d.t1 ∷ drop_head d.t1
   front = some_front d.t1 (omega (arith, l.queue))

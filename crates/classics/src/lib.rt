@@ -18,7 +18,7 @@ use entries::{flags, header, lists, stretch};
 // LRU's hit: entry k of T1 becomes its tail, as it is.
 pub fn renew(dir: &mut [u32], k: usize)
     requires room { Room dir.old }
-    requires k_bound { k < n_t1 dir.old }
+    requires in_t1 { k < n_t1 dir.old }
     ensures { Renewed k dir.old dir.new }
 {
     let at = header::ENTRIES + 2 * k;
