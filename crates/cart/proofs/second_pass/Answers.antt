@@ -1,49 +1,54 @@
-use Rattle.std.proofs.Common.{rules, ◌≡◌, true, false, ◌+◌, ◌-◌, ◌*◌, ◌≤◌, length, get_or, ℕ, ◌<◌, ◌/◌, ◌%◌, Bool, nat_eq, nat_lt, List, [], ◌∷◌, ◌++◌, slice_set, bit_and, bit_or, Fits, w8, w32, w64, Bor, MutBor}
-use Rattle.terms.specs.Policies.{cart}
-use Rattle.figures.specs.Entry.{Entry}
-use Rattle.figures.specs.Directory.{Directory, unit}
-use Rattle.figures.specs.Words.{flags, decode, n_t1, n_b1}
+-- A turn of the loop is one look, and the code's test of the flags is line 27's of T1's head.
+-- What `turn` says of it is what the loop keeps.
+use Rattle.std.proofs.Common.{◌≡◌, Bool, List, ℕ, false, sym, ◌∙◌, arith}
 use Rattle.figures.specs.Cart as Cart
-use Rattle.figures.specs.Policy.{cart_policy}
-use Rattle.figures.specs.Request.{missed}
-use Rattle.engine.specs.Shown.{Makes, Tells}
-use Rattle.engine.specs.Passes.{goes_on, oldest_of, Passing, Looked, Passed, EvictedWithCounts, Demotes, Places}
-use Rattle.entries.specs.Holds.{Holds}
-use Rattle.entries.specs.Stretches.{Room, name_of}
+use Rattle.engine.specs.Heads.{front_of}
+use Rattle.engine.specs.Passes.{goes_on}
+use Rattle.engine.proofs.Looks.{second_stops}
+use Rattle.engine.proofs.Passes.{begins, goes-on, ends_here}
 use Rattle.entries.specs.Flags.{Says}
-use Rattle.entries.specs.Returning.{Full, Freed}
-use Rattle.cart.specs.Passing.{lengthens, HeadFlags, SecondTest, HeadDemoted, Raisable, CountsFit}
+use Rattle.cart.specs.Passing.{HeadFlags, SecondTest}
+use Rattle.cart.proofs.Words.{passing_room}
 use Rattle.cart.proofs.second_pass.Goals as goal
 
--- src/lib.rt:148:5
+-- The test that the code has made.
+tested : {w : List ℕ} {f : ℕ} {b value : Bool} → HeadFlags 0 f w → Says goes_on f b → b ≡ value → SecondTest value w
+tested h says is d shown = sym (says (front_of d.t1) (h d shown)) ∙ is
+
 pub loop-dir-init : goal.loop-dir-init
-loop-dir-init c = ?
+loop-dir-init c = record { passing = c.requires.passing; underway = begins; of_head = c.head_flags-f.ensures }
 
--- src/lib.rt:149:9
 pub turn-now-requires-clause-room : goal.turn-now-requires-clause-room
-turn-now-requires-clause-room c = ?
+turn-now-requires-clause-room c = passing_room c.loop-dir.invariant.passing
 
--- src/lib.rt:149:9
 pub turn-now-requires-clause-passing : goal.turn-now-requires-clause-passing
-turn-now-requires-clause-passing c = ?
+turn-now-requires-clause-passing c = c.loop-dir.invariant.passing
 
--- src/lib.rt:149:9
 pub turn-now-requires-clause-head_flags : goal.turn-now-requires-clause-head_flags
-turn-now-requires-clause-head_flags c = ?
+turn-now-requires-clause-head_flags c =
+    let h = c.loop-dir.invariant.of_head in
+    (h, tested h c.goes_on.ensures c.loop-dir-test.true)
 
--- src/lib.rt:150:9
-pub head_flags-f-requires-in-loop-dir-clause-room :
-    goal.head_flags-f-requires-in-loop-dir-clause-room
-head_flags-f-requires-in-loop-dir-clause-room c = ?
+pub head_flags-f-requires-in-loop-dir-clause-room : goal.head_flags-f-requires-in-loop-dir-clause-room
+head_flags-f-requires-in-loop-dir-clause-room c = passing_room c.turn-now.ensures.passing
 
--- src/lib.rt:148:5
 pub loop-dir-smaller : goal.loop-dir-smaller
-loop-dir-smaller c = ?
+loop-dir-smaller c =
+    let l = c.turn-now.ensures in
+    omega (arith, l.passing.accounts.left, l.one_move)
 
--- src/lib.rt:148:5
 pub loop-dir-preserved : goal.loop-dir-preserved
-loop-dir-preserved c = ?
+loop-dir-preserved c =
+    let l = c.turn-now.ensures in
+    record {
+      passing = l.passing;
+      underway = goes-on c.loop-dir.invariant.underway l;
+      of_head = c.head_flags-f-in-loop-dir.ensures;
+    }
 
--- src/lib.rt:140:1
 pub returns : goal.returns
-returns c = ?
+returns c =
+    let i = c.loop-dir.invariant in
+    let stands : SecondTest false c.loop-dir.dir = tested i.of_head c.goes_on.ensures c.loop-dir-test.false in
+    let ends = ends_here i.underway (λ h holds. second_stops h (stands h.dir holds.shown)) in
+    (record { passing = i.passing; ends = ends }, stands)
