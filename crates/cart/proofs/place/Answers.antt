@@ -1,5 +1,5 @@
 -- What a page that comes back leaves, by its kind: after one from B2 q is raised; a new page is placed after trim.
-use Rattle.std.proofs.Common.{◌≡◌, List, ℕ, refl, sym, ◌∙◌, subst, arith}
+use Rattle.std.proofs.Common.{◌≡◌, List, ℕ, ◌+◌, ◌≤◌, length, refl, sym, ◌∙◌, subst, arith}
 use Rattle.figures.specs.Entry.{new_long}
 use Rattle.figures.specs.Directory.{T1}
 use Rattle.figures.specs.Words.{decode}
@@ -11,7 +11,6 @@ use Rattle.entries.proofs.ComingBack.{was_new}
 use Rattle.entries.proofs.Laid.{header}
 use Rattle.entries.proofs.Rooms.{room_for_new}
 use Rattle.engine.specs.Shown.{Makes}
-use Rattle.terms.specs.Choice.{∣◌∣}
 use Rattle.cart.proofs.Trimming.{trim_fits}
 use Rattle.cart.proofs.Placed.{from-B1, from-B2, new_page, raise_ready}
 use Rattle.cart.proofs.place.Goals as goal
@@ -23,7 +22,7 @@ unchanged r is = (was_new r is).2
 
 -- A page fits in after trim.
 trimmed_room : {w w₁ w₂ : List ℕ} → Freed w → w₁ ≡ w → Makes Holds Cart.trim w₁ w₂
-    → Room w₂ × (start_of 4 w₂ + 2 ≤ ∣ w₂ ∣)
+    → Room w₂ × (start_of 4 w₂ + 2 ≤ length w₂)
 trimmed_room {w} f same trimmed =
     let d = decode w in
     let h = header d w f.is in
