@@ -20,9 +20,9 @@ use Rattle.cart.proofs.first_pass.Goals as goal
 
 module _ {w : List ℕ} {f : ℕ} (h : HeadFlags 1 f w) {b value : Bool} (says : Says (λ e. e.bit) f b) (tested : b ≡ value)
   where
-  -- The bit that the code has read is that of T2's head.
-  bit_is : (d : Directory) → Holds d w → (front_of d.t2).bit ≡ value
-  bit_is d is = sym (says (front_of d.t2) (h d is)) ∙ tested
+    -- The bit that the code has read is that of T2's head.
+    bit_is : (d : Directory) → Holds d w → (front_of d.t2).bit ≡ value
+    bit_is d is = sym (says (front_of d.t2) (h d is)) ∙ tested
 
 module _ {w : List ℕ} {k : Kept} {f : ℕ} (p : Passing Holds w k) (h : HeadFlags 1 f w)
     {b : Bool} (says : Says (λ e. e.bit) f b) (set : b ≡ true)
@@ -89,5 +89,5 @@ returns c =
     record {
       passing = i.passing;
       ends = ends_here i.underway
-      (λ h holds. first_stops h (bit_is i.of_head c.bit.ensures c.loop-f-test.false h.dir holds.shown));
+          (λ h holds. first_stops h (bit_is i.of_head c.bit.ensures c.loop-f-test.false h.dir holds.shown));
     }
