@@ -1,7 +1,6 @@
 -- What CART's functions ask of lent words and read there, beside what engine says of the passes.
 -- These functions are internal: the public operations ask for nothing.
-use Rattle.std.specs.Prelude.{◌≡◌, Bool, false, List, ℕ, ◌+◌, ◌*◌, ◌≤◌, get_or}
-use Rattle.terms.specs.Choice.{if◌then◌else◌}
+use Rattle.std.specs.Prelude.{◌≡◌, Bool, false, List, ℕ, ◌+◌, ◌*◌, ◌≤◌, get_or, if◌then◌else◌}
 use Rattle.figures.specs.Entry.{Entry, demoted, is_long}
 use Rattle.figures.specs.Directory.{Directory, list_of}
 use Rattle.figures.specs.Words.{flags, size, n_t1, n_t2}

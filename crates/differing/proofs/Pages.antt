@@ -1,5 +1,6 @@
 -- Pages that differ from an entry on, and a page told from those behind it by what is noted of these.
 -- For `stands_behind`, which looks behind one entry, and for the loop of `pages_differ`, which goes to the front.
+use Rattle.std.specs.Prelude.{if◌then◌else◌}
 use mathlib.Core.Path.{◌≡◌, refl, sym, ap, ◌∙◌}
 use mathlib.Core.Bool.{Bool, true, false, true≢false, false≢true}
 use mathlib.Core.List.{List, [], ◌∷◌}
@@ -8,7 +9,7 @@ use native.Mathlib.Omega.{arith}
 use lib.Dec.{eqb, ltb}
 use lib.ListN.{length, drop, get_or, length-drop, drop_of_length-le}
 use borrow.Author.Tests.{eqb-true, ltb-true, ltb-false}
-use Rattle.terms.specs.Choice.{if◌then◌else◌, ∣◌∣}
+use Rattle.terms.specs.Choice.{∣◌∣}
 use Rattle.figures.specs.Entry.{Entry, has, differ}
 use Rattle.entries.specs.Stretches.{index}
 use Rattle.entries.specs.Leaves.{FoundAt}

@@ -1,6 +1,5 @@
 -- Whether the page of entry i stands behind it once more, told only where all pages behind it were noted.
-use Rattle.std.specs.Prelude.{◌≡◌, Bool, false, List, ℕ, ◌+◌, drop}
-use Rattle.terms.specs.Choice.{if◌then◌else◌}
+use Rattle.std.specs.Prelude.{◌≡◌, Bool, false, List, ℕ, ◌+◌, drop, if◌then◌else◌}
 use Rattle.figures.specs.Entry.{differ}
 use Rattle.entries.specs.Leaves.{OfEntries}
 use Rattle.differing.specs.Seen.{AllNoted}

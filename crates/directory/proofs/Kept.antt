@@ -1,11 +1,11 @@
 -- An accepted request or run leaves a sound directory with the requested page in T1 or T2, by the promise alone.
+use Rattle.std.specs.Prelude.{if◌then◌else◌}
 use mathlib.Core.Path.{◌≡◌, refl, sym, ap, ◌∙◌, subst⁻¹}
 use mathlib.Core.Bool.{Bool, true, false, not}
 use mathlib.Core.List.{List, [], ◌∷◌, ◌++◌}
 use Prim.Native.Nat.{ℕ}
 use lib.Dec.{eqb}
 use borrow.Author.Tests.{eqb-true}
-use Rattle.terms.specs.Choice.{if◌then◌else◌}
 use Rattle.terms.proofs.Choice.{by_test}
 use Rattle.figures.specs.Directory.{Directory}
 use Rattle.figures.specs.Words.{encode, decode}

@@ -1,5 +1,6 @@
 -- The numbers of a fresh directory and of a check, refusal by refusal in the order of document 01.
 -- And what the check accepts.
+use Rattle.std.specs.Prelude.{if◌then◌else◌}
 use mathlib.Core.Path.{◌≡◌, refl}
 use mathlib.Core.Bool.{Bool, true, false, not}
 use mathlib.Core.List.{List}
@@ -8,7 +9,7 @@ use native.Mathlib.Omega.{arith}
 use lib.ListN.{get_or, set, replicate, replicate-append-replicate}
 use lib.Dec.{ltb}
 use borrow.Author.Tests.{lt-ltb, le-ltb, eq-eqb, ne_eqb}
-use Rattle.terms.specs.Choice.{if◌then◌else◌, ∣◌∣}
+use Rattle.terms.specs.Choice.{∣◌∣}
 use Rattle.terms.specs.Limits.{known_size}
 use Rattle.terms.specs.Policies.{known_policy}
 use Rattle.figures.specs.Directory.{fresh}

@@ -1,11 +1,11 @@
 -- A request as the definition has it for every input: refused as the check refuses, else served.
+use Rattle.std.specs.Prelude.{if◌then◌else◌}
 use mathlib.Core.Path.{◌≡◌, sym, ap, ◌∙◌}
 use mathlib.Core.Bool.{Bool}
 use mathlib.Core.List.{List}
 use Prim.Native.Nat.{ℕ}
 use native.Mathlib.Omega.{arith}
 use borrow.Author.Tests.{eq-eqb, ne_eqb}
-use Rattle.terms.specs.Choice.{if◌then◌else◌}
 use Rattle.figures.specs.Words.{decode}
 use Rattle.figures.specs.Request.{request}
 use Rattle.figures.specs.Refusals.{check_number, on_check, on_request, Answered, refused_request, served_request}

@@ -1,12 +1,13 @@
 -- CART's trim, by its tests: the directory as it was, or without the head of the history that it takes from.
 -- Nothing here is of an engine: each says which directory its memory is to show.
+use Rattle.std.specs.Prelude.{if◌then◌else◌}
 use mathlib.Core.Path.{◌≡◌, refl}
 use mathlib.Core.Bool.{Bool, true, false, ◌||◌}
 use Prim.Native.Nat.{◌+◌, ◌≤◌}
 use native.Mathlib.Omega.{arith}
 use lib.Dec.{eqb, ltb}
 use borrow.Author.Tests.{ltb-true, eqb-true, eqb-false, eq-eqb, ne_eqb}
-use Rattle.terms.specs.Choice.{if◌then◌else◌, ∣◌∣}
+use Rattle.terms.specs.Choice.{∣◌∣}
 use Rattle.terms.proofs.Choice.{by_tests}
 use Rattle.figures.specs.Entry.{drop_head}
 use Rattle.figures.specs.Directory.{Directory, Name, B1, B2, list_of, with_list, remembered}

@@ -1,12 +1,13 @@
 -- What a look of CAR comes to: at a set bit the repeat goes on from there, with a set bit less; at a clear one it ends.
 -- Over what memory shows, and over the chosen clock.
+use Rattle.std.specs.Prelude.{if◌then◌else◌}
 use mathlib.Core.Path.{◌≡◌, refl, ap, ◌∙◌}
 use mathlib.Core.Bool.{Bool, true, false}
 use mathlib.Core.List.{List, [], ◌∷◌, ◌++◌}
 use Prim.Native.Nat.{ℕ, ◌+◌, ◌≤◌, ◌<◌}
 use native.Mathlib.Omega.{arith}
 use borrow.Author.Tests.{leb-true, leb-false}
-use Rattle.terms.specs.Choice.{if◌then◌else◌, ∣◌∣}
+use Rattle.terms.specs.Choice.{∣◌∣}
 use Rattle.terms.proofs.Choice.{by_test}
 use Rattle.figures.specs.Entry.{Entry, cleared, demoted, bits, total, drop_head}
 use Rattle.figures.specs.Directory.{Directory, Name, T1, T2, B1, B2, list_of, in_cache, t1_at_target}

@@ -1,7 +1,6 @@
 -- CAR's choice and its looks over lent memory w, and k, what the hand has counted. How memory shows a directory is a
 -- parameter. Any hand that memory and counts show may be meant: a promise is one about each of them.
-use Rattle.std.specs.Prelude.{◌≡◌, ◌+◌, ◌≤◌}
-use Rattle.terms.specs.Choice.{if◌then◌else◌}
+use Rattle.std.specs.Prelude.{◌≡◌, ◌+◌, ◌≤◌, if◌then◌else◌}
 use Rattle.figures.specs.Entry.{bits}
 use Rattle.figures.specs.Directory.{Directory, Name, T1, T2, B1, B2, cached, remembered, in_cache, t1_at_target}
 use Rattle.figures.specs.Hand.{Hand}

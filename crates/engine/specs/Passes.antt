@@ -1,7 +1,6 @@
 -- CART's two passes over lent memory w, and k, what is kept beside it. How memory shows a directory is a parameter.
 -- Any hand that memory and counts show may be meant: a promise is one about each of them.
-use Rattle.std.specs.Prelude.{◌≡◌, Bool, ◌||◌, ℕ, ◌+◌, ◌*◌, ◌≤◌, ltb, eqb}
-use Rattle.terms.specs.Choice.{if◌then◌else◌}
+use Rattle.std.specs.Prelude.{◌≡◌, Bool, ◌||◌, ℕ, ◌+◌, ◌*◌, ◌≤◌, ltb, eqb, if◌then◌else◌}
 use Rattle.figures.specs.Entry.{Entry, is_long, bits, short, long, total}
 use Rattle.figures.specs.Directory.{Directory, Name, B1, B2, cached, remembered, in_cache}
 use Rattle.figures.specs.Hand.{Hand, Look, again}

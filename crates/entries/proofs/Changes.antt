@@ -1,5 +1,6 @@
 -- What each leaf of lists.rt leaves in the words is the directory that its contract names.
 -- Whichever the lists are: the cases over their numbers are in Laid.
+use Rattle.std.specs.Prelude.{if◌then◌else◌}
 use mathlib.Core.Path.{◌≡◌, refl, sym, ap, ◌∙◌}
 use mathlib.Core.Bool.{Bool, true, false}
 use mathlib.Core.List.{List, [], ◌∷◌, ◌++◌, append_assoc}
@@ -8,7 +9,7 @@ use native.Mathlib.Nat.{add-zero}
 use native.Mathlib.Omega.{arith}
 use lib.ListN.{length, get_or, set, take, drop, length-append, length-drop, take-append-drop}
 use lib.Seq.{length-take-le, set-set, set_comm, set-get_or}
-use Rattle.terms.specs.Choice.{if◌then◌else◌, ∣◌∣}
+use Rattle.terms.specs.Choice.{∣◌∣}
 use Rattle.figures.specs.Entry.{Entry, new_short, cleared, marked, has, mark, without, drop_head}
 use Rattle.figures.specs.Directory.{Directory, T1, T2, list_of, with_list, to_tail, hit, place_new}
 use Rattle.figures.specs.Directory.{cached, remembered, listed}

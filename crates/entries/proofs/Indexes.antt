@@ -1,12 +1,13 @@
 -- Where a page stands in a list: below its length just where the list has the page, and what stands around it.
 -- For `find`, which counts the entries before the page, and for what is then done to the entry that it names.
+use Rattle.std.specs.Prelude.{if◌then◌else◌}
 use mathlib.Core.Path.{◌≡◌, refl, ap}
 use mathlib.Core.Bool.{Bool, true, false, ◌||◌, true≢false, false≢true}
 use mathlib.Core.List.{List, [], ◌∷◌, ◌++◌}
 use Prim.Native.Nat.{ℕ, suc, ◌≤◌, ◌<◌}
 use native.Mathlib.Omega.{arith}
 use lib.Dec.{eqb}
-use Rattle.terms.specs.Choice.{if◌then◌else◌, ∣◌∣}
+use Rattle.terms.specs.Choice.{∣◌∣}
 use Rattle.figures.specs.Entry.{Entry, marked, has, mark, without, only}
 use Rattle.entries.specs.Stretches.{index}
 

@@ -1,7 +1,6 @@
 -- What a flags word says of its entry, and what it becomes as the entry changes.
 -- Each is said of every entry whose flags they are, so that a caller names the entry and has the rest.
-use Rattle.std.specs.Prelude.{◌≡◌, ℕ, eqb}
-use Rattle.terms.specs.Choice.{if◌then◌else◌}
+use Rattle.std.specs.Prelude.{◌≡◌, ℕ, eqb, if◌then◌else◌}
 use Rattle.figures.specs.Entry.{Entry, bits, long}
 use Rattle.figures.specs.Words.{flags}
 

@@ -1,7 +1,7 @@
 -- Where a list stands in the words, and where a page stands in a list.
 -- A contract's `requires` speaks of these numbers alone.
-use Rattle.std.specs.Prelude.{List, [], ◌∷◌, ℕ, zero, suc, ◌+◌, ◌*◌, ◌≤◌, eqb}
-use Rattle.terms.specs.Choice.{if◌then◌else◌, ∣◌∣}
+use Rattle.std.specs.Prelude.{List, [], ◌∷◌, ℕ, zero, suc, ◌+◌, ◌*◌, ◌≤◌, eqb, if◌then◌else◌}
+use Rattle.terms.specs.Choice.{∣◌∣}
 use Rattle.figures.specs.Entry.{Entry}
 use Rattle.figures.specs.Directory.{Name, T1, T2, B1, B2}
 use Rattle.figures.specs.Words.{n_t1, n_t2, n_b1, used}

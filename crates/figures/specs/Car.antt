@@ -1,7 +1,7 @@
 -- CAR, Figure 2 of Bansal and Modha: evict, its replace(), lines 22 to 39; trim, lines 6 to 10; place, lines 14 to 19.
 -- Sizes are those at the moment a rule is read; quotients are whole, and the page itself still counts in them.
-use Rattle.std.specs.Prelude.{Bool, List, [], ◌∷◌, ℕ, suc, ◌+◌, ◌-◌, ◌*◌, ◌/◌, max, min, get_or, leb, eqb}
-use Rattle.terms.specs.Choice.{if◌then◌else◌, ∣◌∣, every}
+use Rattle.std.specs.Prelude.{Bool, List, [], ◌∷◌, ℕ, suc, ◌+◌, ◌-◌, ◌*◌, ◌/◌, max, min, get_or, leb, eqb, if◌then◌else◌}
+use Rattle.terms.specs.Choice.{∣◌∣, every}
 use Rattle.figures.specs.Entry.{Entry, new_short, cleared, bits, long, none_of, without, drop_head}
 use Rattle.figures.specs.Directory.{Directory, unit, Name, T1, T2, B1, B2, with_list, with_p, to_tail}
 use Rattle.figures.specs.Directory.{cached, remembered, listed, in_cache, t1_at_target}

@@ -1,7 +1,7 @@
 -- CART, Figure 3 of Bansal and Modha: evict, its replace(), lines 23 to 40; trim, lines 6 to 10; place, lines 14 to 20.
 -- n_S and n_L are counted when a request begins and then kept as the figure keeps them.
-use Rattle.std.specs.Prelude.{Bool, ◌||◌, List, [], ◌∷◌, ◌++◌, ℕ, suc, ◌+◌, ◌-◌, ◌*◌, ◌/◌, max, min, get_or, leb, ltb, eqb}
-use Rattle.terms.specs.Choice.{if◌then◌else◌, ∣◌∣, every}
+use Rattle.std.specs.Prelude.{Bool, ◌||◌, List, [], ◌∷◌, ◌++◌, ℕ, suc, ◌+◌, ◌-◌, ◌*◌, ◌/◌, max, min, get_or, leb, ltb, eqb, if◌then◌else◌}
+use Rattle.terms.specs.Choice.{∣◌∣, every}
 use Rattle.figures.specs.Entry.{Entry, Filter, S, L, new_long, cleared, made_long}
 use Rattle.figures.specs.Entry.{bits, short, long, total, none_of, without, drop_head}
 use Rattle.figures.specs.Directory.{Directory, unit, T1, T2, B1, B2, with_list, with_p, with_q, to_tail}

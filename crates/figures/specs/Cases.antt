@@ -1,8 +1,8 @@
 -- The runs that document 01 shows, P1 to P12; traces that show the errors that look right, E1 to E45; FIFO, CLOCK and
 -- LRU, C1 to C15; and directories that break one rule of soundness, U1 to U37, or stand at its limit, S1 to S10. See
 -- docs/FAULTS.md.
-use Rattle.std.specs.Prelude.{◌≡◌, Bool, true, false, List, [], ◌∷◌, ◌++◌, map, ℕ, ◌*◌, ◌-◌, get_or, take, drop, replicate, eqb}
-use Rattle.terms.specs.Choice.{if◌then◌else◌, ∣◌∣, every, same}
+use Rattle.std.specs.Prelude.{◌≡◌, Bool, true, false, List, [], ◌∷◌, ◌++◌, map, ℕ, ◌*◌, ◌-◌, get_or, take, drop, replicate, eqb, if◌then◌else◌}
+use Rattle.terms.specs.Choice.{∣◌∣, every, same}
 use Rattle.terms.specs.Policies.{car, cart, fifo, clock, lru}
 use Rattle.figures.specs.Directory.{unit, fresh}
 use Rattle.figures.specs.Words.{words}

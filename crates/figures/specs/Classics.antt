@@ -1,7 +1,7 @@
 -- FIFO, CLOCK and LRU, request 1 of 02: T1 alone, a queue whose head is evicted and forgotten.
 -- They differ in what a hit does, and CLOCK sends a head whose bit is set to the tail first.
-use Rattle.std.specs.Prelude.{Bool, List, [], ◌∷◌, ◌++◌, ℕ, suc, ◌+◌, get_or, eqb}
-use Rattle.terms.specs.Choice.{if◌then◌else◌, every}
+use Rattle.std.specs.Prelude.{Bool, List, [], ◌∷◌, ◌++◌, ℕ, suc, ◌+◌, get_or, eqb, if◌then◌else◌}
+use Rattle.terms.specs.Choice.{every}
 use Rattle.figures.specs.Entry.{Entry, cleared, bits, long, none_of, without, only}
 use Rattle.figures.specs.Directory.{Directory, T1, with_list, place_new, in_cache}
 use Rattle.figures.specs.Words.{decode, n_t2, n_b1, n_b2}

@@ -1,7 +1,7 @@
 -- The directory as a value: the policy's number, c, the targets p and q, and the four lists.
 -- A rule changes lists and targets by the functions below alone.
-use Rattle.std.specs.Prelude.{Bool, List, [], ◌∷◌, ◌++◌, ℕ, ◌+◌, ◌*◌, max, leb}
-use Rattle.terms.specs.Choice.{if◌then◌else◌, ∣◌∣}
+use Rattle.std.specs.Prelude.{Bool, List, [], ◌∷◌, ◌++◌, ℕ, ◌+◌, ◌*◌, max, leb, if◌then◌else◌}
+use Rattle.terms.specs.Choice.{∣◌∣}
 use Rattle.figures.specs.Entry.{Entry, new_short, total, has, mark}
 
 pub record Directory : Type 0 where

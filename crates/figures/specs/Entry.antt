@@ -1,7 +1,6 @@
 -- An entry of the directory: a page, its reference bit, its filter; and lists of entries, from head to tail.
 -- Entries are made by the helpers below alone, so that a further flag is added in one place.
-use Rattle.std.specs.Prelude.{Bool, true, false, List, [], ◌∷◌, ℕ, ◌+◌, eqb}
-use Rattle.terms.specs.Choice.{if◌then◌else◌}
+use Rattle.std.specs.Prelude.{Bool, true, false, List, [], ◌∷◌, ℕ, ◌+◌, eqb, if◌then◌else◌}
 
 -- The filter: S, short-term utility, or L, long-term utility.
 pub data Filter : Type 0 where

@@ -1,7 +1,6 @@
 -- The policies, a row for each: all in which they differ. Nothing else of the definitions asks which policy it is.
 -- A policy more is one row more here, its number in terms/specs/Policies, and one record of laws in laws/proofs/Lawful.
-use Rattle.std.specs.Prelude.{Bool, List, ℕ, ◌+◌, ◌*◌, eqb}
-use Rattle.terms.specs.Choice.{if◌then◌else◌}
+use Rattle.std.specs.Prelude.{Bool, List, ℕ, ◌+◌, ◌*◌, eqb, if◌then◌else◌}
 use Rattle.terms.specs.Policies.{car, cart, fifo, clock, lru}
 use Rattle.figures.specs.Entry.{bits}
 use Rattle.figures.specs.Directory.{Directory, hit, in_cache}

@@ -1,7 +1,6 @@
 -- The pages of a past, each once, the last used first; and the LRU directory that holds the first c of them.
 -- One list serves every c: request 14 of 02, every size from one pass, will stand on it.
-use Rattle.std.specs.Prelude.{◌≡◌, List, [], ◌∷◌, map, reverse, ℕ, take, eqb}
-use Rattle.terms.specs.Choice.{if◌then◌else◌}
+use Rattle.std.specs.Prelude.{◌≡◌, List, [], ◌∷◌, map, reverse, ℕ, take, eqb, if◌then◌else◌}
 use Rattle.terms.specs.Policies.{lru}
 use Rattle.figures.specs.Entry.{new_short}
 use Rattle.figures.specs.Directory.{Directory, fresh, T1, with_list}

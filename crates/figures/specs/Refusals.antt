@@ -1,7 +1,7 @@
 -- The four operations as total functions of any words, page, trace and buffer: the answer and all lent memory then.
 -- A refused call's answer is its number with zeros elsewhere, and all lent memory stays.
-use Rattle.std.specs.Prelude.{not, List, ◌++◌, ℕ, ◌+◌, ◌*◌, get_or, drop, ltb, eqb}
-use Rattle.terms.specs.Choice.{if◌then◌else◌, ∣◌∣}
+use Rattle.std.specs.Prelude.{not, List, ◌++◌, ℕ, ◌+◌, ◌*◌, get_or, drop, ltb, eqb, if◌then◌else◌}
+use Rattle.terms.specs.Choice.{∣◌∣}
 use Rattle.terms.specs.Limits.{most_pages, known_size}
 use Rattle.terms.specs.Policies.{known_policy}
 use Rattle.terms.specs.Refusals.{accepted, policy_not_known, size_not_known, wrong_length, not_sound}

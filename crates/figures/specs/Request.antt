@@ -1,7 +1,6 @@
 -- One request, written once over a policy: hit; or miss, with evict and trim where the cache is full; then place.
 -- Lines 1 to 21 of both figures.
-use Rattle.std.specs.Prelude.{◌||◌, List, [], ◌∷◌, ℕ, eqb}
-use Rattle.terms.specs.Choice.{if◌then◌else◌}
+use Rattle.std.specs.Prelude.{◌||◌, List, [], ◌∷◌, ℕ, eqb, if◌then◌else◌}
 use Rattle.figures.specs.Entry.{has}
 use Rattle.figures.specs.Directory.{Directory, place_new, cached}
 use Rattle.figures.specs.Hand.{Hand}

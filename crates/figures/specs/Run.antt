@@ -1,7 +1,6 @@
 -- A run: the requests of a trace in order, with one tally that every request brings up to date.
 -- The answers stand in order, four words each.
-use Rattle.std.specs.Prelude.{List, [], ◌∷◌, ◌++◌, ℕ, ◌+◌, leb, eqb}
-use Rattle.terms.specs.Choice.{if◌then◌else◌}
+use Rattle.std.specs.Prelude.{List, [], ◌∷◌, ◌++◌, ℕ, ◌+◌, leb, eqb, if◌then◌else◌}
 use Rattle.figures.specs.Directory.{Directory}
 use Rattle.figures.specs.Request.{Served, answer, request}
 

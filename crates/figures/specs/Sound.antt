@@ -1,7 +1,7 @@
 -- "A directory is sound when": a test on any words, a line for each phrase of document 01, in its order.
 -- Lengths are those that words 4 to 7 state, so that no damaged length escapes; entries are read through decode.
-use Rattle.std.specs.Prelude.{Bool, true, List, [], ◌∷◌, ◌++◌, ℕ, ◌+◌, ◌*◌, ◌≤◌, get_or, take, drop, leb, ltb, eqb}
-use Rattle.terms.specs.Choice.{if◌then◌else◌, ∣◌∣, every, all_at_most}
+use Rattle.std.specs.Prelude.{Bool, true, List, [], ◌∷◌, ◌++◌, ℕ, ◌+◌, ◌*◌, ◌≤◌, get_or, take, drop, leb, ltb, eqb, if◌then◌else◌}
+use Rattle.terms.specs.Choice.{∣◌∣, every, all_at_most}
 use Rattle.terms.specs.Limits.{most_size, known_size}
 use Rattle.terms.specs.Policies.{known_policy}
 use Rattle.figures.specs.Entry.{bits, none_of, differ}

@@ -1,7 +1,7 @@
 -- The directory as 8 + 4c words, and the words as a directory.
 -- Word 0 the policy, 1 c, 2 and 3 the targets, 4 to 7 the lengths; then the entries, two words each; then zeros.
-use Rattle.std.specs.Prelude.{List, [], ◌∷◌, ◌++◌, ℕ, zero, suc, ◌+◌, ◌-◌, ◌*◌, ◌/◌, ◌%◌, get_or, drop, replicate, eqb}
-use Rattle.terms.specs.Choice.{if◌then◌else◌, ∣◌∣}
+use Rattle.std.specs.Prelude.{List, [], ◌∷◌, ◌++◌, ℕ, zero, suc, ◌+◌, ◌-◌, ◌*◌, ◌/◌, ◌%◌, get_or, drop, replicate, eqb, if◌then◌else◌}
+use Rattle.terms.specs.Choice.{∣◌∣}
 use Rattle.figures.specs.Entry.{Entry, S, L, bits, long}
 use Rattle.figures.specs.Directory.{Directory, cached, remembered}
 

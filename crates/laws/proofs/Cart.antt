@@ -1,5 +1,6 @@
 -- CART's evict, trim and place: both passes end by themselves, what they keep, what the demotion and each place leave.
 -- Every hand move before the demotion lowers what the cache owes by one at least, which bounds the moves.
+use Rattle.std.specs.Prelude.{if◌then◌else◌}
 use mathlib.Core.Path.{◌≡◌, refl}
 use mathlib.Core.Bool.{Bool, true, false}
 use mathlib.Core.Logic.{inl, inr, ⊎_elim}
@@ -8,7 +9,7 @@ use Prim.Native.Nat.{ℕ, ◌+◌, ◌-◌, ◌*◌, ◌≤◌, min}
 use native.Mathlib.Omega.{arith}
 use lib.Dec.{leb, ltb, eqb}
 use borrow.Author.Tests.{eqb-true, eqb-false, eq-eqb, ltb-true, ltb-false}
-use Rattle.terms.specs.Choice.{if◌then◌else◌, ∣◌∣}
+use Rattle.terms.specs.Choice.{∣◌∣}
 use Rattle.terms.proofs.Choice.{by_test, by_tests, either}
 use Rattle.figures.specs.Entry.{Entry, Filter, S, L, new_long, cleared, made_long, demoted, bits, short, long}
 use Rattle.figures.specs.Entry.{total, has, drop_head}

@@ -1,12 +1,13 @@
 -- FIFO, CLOCK and LRU over what they share: CLOCK's evict part stops by itself and forgets one page of T1, and where no
 -- bit is set it is FIFO's and LRU's. A new page and every hit keep T1 alone.
+use Rattle.std.specs.Prelude.{if◌then◌else◌}
 use mathlib.Core.Path.{◌≡◌, refl, subst}
 use mathlib.Core.Bool.{Bool, true, false}
 use mathlib.Core.List.{List, [], ◌∷◌}
 use Prim.Native.Nat.{ℕ, ◌+◌, ◌≤◌}
 use native.Mathlib.Omega.{arith}
 use lib.Dec.{eqb}
-use Rattle.terms.specs.Choice.{if◌then◌else◌, ∣◌∣}
+use Rattle.terms.specs.Choice.{∣◌∣}
 use Rattle.terms.proofs.Choice.{by_test}
 use Rattle.figures.specs.Entry.{Entry, new_short, cleared, bits, long, total}
 use Rattle.figures.specs.Directory.{Directory, T1, hit, place_new, cached, listed, in_cache}

@@ -1,5 +1,6 @@
 -- Words and directories are two forms of one thing: what is encoded decodes to itself, and sound words are encoded.
 -- The four lists are read at once where they can be: the words of all listed entries are the words in use.
+use Rattle.std.specs.Prelude.{if◌then◌else◌}
 use mathlib.Core.Path.{◌≡◌, refl, sym, ap, ◌∙◌}
 use mathlib.Core.Bool.{true}
 use mathlib.Core.List.{List, [], ◌∷◌, ◌++◌, append_assoc}
@@ -10,7 +11,7 @@ use lib.ListN.{get_or, take, drop, replicate, length-append, length-drop, length
 use lib.Seq.{drop-nil, drop-cons, drop-drop, drop_at, take_at}
 use lib.Dec.{eqb}
 use borrow.Author.Tests.{eqb-true, eqb-false}
-use Rattle.terms.specs.Choice.{if◌then◌else◌, ∣◌∣, all_at_most}
+use Rattle.terms.specs.Choice.{∣◌∣, all_at_most}
 use Rattle.terms.proofs.Choice.{by_test}
 use Rattle.terms.proofs.Tests.{reads}
 use Rattle.figures.specs.Entry.{Entry, S, L, bits, long_of, long}

@@ -1,9 +1,9 @@
 -- What an entry counts for, by its bit and by its filter: laws over any entry with facts about it cite these.
 -- Each flag by itself, so that a further flag adds no cases to the others.
+use Rattle.std.specs.Prelude.{if◌then◌else◌}
 use mathlib.Core.Path.{◌≡◌, refl, sym, ap}
 use mathlib.Core.Bool.{Bool, true, false, false≢true}
 use lib.Dec.{eqb}
-use Rattle.terms.specs.Choice.{if◌then◌else◌}
 use Rattle.figures.specs.Entry.{Entry, Filter, S, L, is_long, bits, short_of, long_of, short, long}
 use Rattle.figures.specs.Cart.{cost}
 

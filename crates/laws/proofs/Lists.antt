@@ -1,6 +1,7 @@
 -- What a list of entries counts for: at a tail, without a page, with a page moved to the tail or its bit set, without
 -- its head.
 -- Each law is over any count, so that sizes, bits, filters and pages are counted by the same ones.
+use Rattle.std.specs.Prelude.{if◌then◌else◌}
 use mathlib.Core.Path.{◌≡◌, refl, ap, ◌∙◌}
 use mathlib.Core.Bool.{Bool, true, false, true≢false, false≢true}
 use mathlib.Core.List.{List, [], ◌∷◌, ◌++◌}
@@ -9,7 +10,7 @@ use native.Mathlib.Omega.{arith}
 use lib.ListN.{length-append}
 use lib.Dec.{eqb}
 use borrow.Author.Tests.{eq-eqb}
-use Rattle.terms.specs.Choice.{if◌then◌else◌, ∣◌∣}
+use Rattle.terms.specs.Choice.{∣◌∣}
 use Rattle.terms.proofs.Choice.{either}
 use Rattle.figures.specs.Entry.{Entry, Filter, S, L, marked, bits, short_of, long_of, short, long}
 use Rattle.figures.specs.Entry.{total, has, mark, without, only, drop_head}

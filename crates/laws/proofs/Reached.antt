@@ -1,13 +1,14 @@
 -- The pages 1 to c, the same again, then a new one: the last request takes c + 1 moves under CAR and CLOCK and 2c + 1
 -- under CART. Under FIFO and LRU it takes one, the first time already.
 -- The directory is followed through the three parts of that trace.
+use Rattle.std.specs.Prelude.{if◌then◌else◌}
 use mathlib.Core.Path.{◌≡◌, refl, sym, ap, ◌∙◌}
 use mathlib.Core.Bool.{Bool, true, false}
 use mathlib.Core.List.{List, [], ◌∷◌, ◌++◌, append_assoc, append-nil}
 use Prim.Native.Nat.{ℕ, zero, suc, ◌+◌, ◌-◌, ◌*◌, ◌≤◌, ◌<◌, max}
 use native.Mathlib.Omega.{arith}
 use borrow.Author.Tests.{eq-eqb, ne_eqb, le-leb}
-use Rattle.terms.specs.Choice.{if◌then◌else◌, ∣◌∣, numbers_from}
+use Rattle.terms.specs.Choice.{∣◌∣, numbers_from}
 use Rattle.terms.specs.Policies.{car, cart, fifo, clock, lru}
 use Rattle.figures.specs.Entry.{Entry, new_short, new_long, marked, bits, short, long, total, has, mark}
 use Rattle.figures.specs.Directory.{Directory, unit, fresh, with_lists, with_q, hit, place_new}

@@ -1,5 +1,6 @@
 -- LRU: a request from the directory that holds the first c of a list leaves the one that holds the first c of the list
 -- with the requested page in front. So a run's T1 is the last c different pages of its trace.
+use Rattle.std.specs.Prelude.{if◌then◌else◌}
 use mathlib.Core.Path.{◌≡◌, refl, sym, ap, ◌∙◌, subst}
 use mathlib.Core.Bool.{true, false, ◌||◌, false≢true, or-false}
 use mathlib.Core.List.{List, [], ◌∷◌, ◌++◌, map, map-append, reverse, reverse_aux, reverse-cons, reverse-reverse}
@@ -9,7 +10,7 @@ use lib.ListN.{take, length-map, length-reverse, length-take}
 use lib.Seq.{take_all, take_at, take-take}
 use lib.Dec.{eqb}
 use borrow.Author.Tests.{eqb-true, eqb-false}
-use Rattle.terms.specs.Choice.{if◌then◌else◌, ∣◌∣}
+use Rattle.terms.specs.Choice.{∣◌∣}
 use Rattle.terms.specs.Policies.{lru}
 use Rattle.terms.proofs.Choice.{by_test}
 use Rattle.terms.proofs.Tests.{reads}

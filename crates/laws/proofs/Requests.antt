@@ -1,11 +1,11 @@
 -- How a request goes, by its tests; and a run, request by request.
 -- Whatever is proved of requests goes by these cases.
+use Rattle.std.specs.Prelude.{if◌then◌else◌}
 use mathlib.Core.Path.{◌≡◌, refl, sym, ap, ◌∙◌, subst}
 use mathlib.Core.Bool.{Bool, true, false, ◌||◌}
 use mathlib.Core.List.{List, [], ◌∷◌, ◌++◌}
 use Prim.Native.Nat.{ℕ}
 use lib.Dec.{eqb}
-use Rattle.terms.specs.Choice.{if◌then◌else◌}
 use Rattle.figures.specs.Entry.{has}
 use Rattle.figures.specs.Directory.{Directory, place_new, cached}
 use Rattle.figures.specs.Hand.{Hand}

@@ -1,5 +1,6 @@
 -- The test of soundness says of a directory's words just what Facts says of its value.
 -- `simp says`, below, turns the test into facts, and facts into the test.
+use Rattle.std.specs.Prelude.{if◌then◌else◌}
 use mathlib.Core.Path.{◌≡◌, refl}
 use mathlib.Core.Bool.{Bool, true, false}
 use mathlib.Core.Logic.{◌↔◌}
@@ -9,7 +10,7 @@ use native.Mathlib.Omega.{arith}
 use lib.ListN.{take, drop, replicate}
 use lib.Dec.{eqb}
 use borrow.Author.Tests.{eqb-true}
-use Rattle.terms.specs.Choice.{if◌then◌else◌, all_at_most}
+use Rattle.terms.specs.Choice.{all_at_most}
 use Rattle.terms.proofs.Tests.{reads}
 use Rattle.figures.specs.Entry.{Entry, total, differ}
 use Rattle.figures.specs.Directory.{Directory, cached, remembered, listed, in_cache}

@@ -1,12 +1,13 @@
 -- What the policies share: turns of a head to a tail of T1 or T2, the choice between the two, the last move, the trim.
 -- Each law is over any count of entries, so that a size, which counts ones, needs no law of its own.
+use Rattle.std.specs.Prelude.{if◌then◌else◌}
 use mathlib.Core.Path.{◌≡◌, refl, ap}
 use mathlib.Core.List.{List, ◌∷◌}
 use Prim.Native.Nat.{ℕ, ◌+◌, ◌≤◌}
 use native.Mathlib.Omega.{arith}
 use lib.Dec.{eqb}
 use borrow.Author.Tests.{leb-true, leb-false}
-use Rattle.terms.specs.Choice.{if◌then◌else◌, ∣◌∣}
+use Rattle.terms.specs.Choice.{∣◌∣}
 use Rattle.terms.proofs.Choice.{by_test}
 use Rattle.figures.specs.Entry.{Entry, cleared, demoted, bits, total, drop_head}
 use Rattle.figures.specs.Directory.{Directory, Name, T1, T2, B1, B2, with_list, with_lists, with_q}

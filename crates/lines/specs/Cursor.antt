@@ -1,7 +1,7 @@
 -- The cursor's answer: where the line that starts at a place of the sheet is closed.
 -- The look-up's spans: number and places as the definition has them, and the places within the sheet.
-use Rattle.std.specs.Prelude.{◌≡◌, List, ℕ, ◌+◌, ◌≤◌, drop, ltb}
-use Rattle.terms.specs.Choice.{if◌then◌else◌, ∣◌∣}
+use Rattle.std.specs.Prelude.{◌≡◌, List, ℕ, ◌+◌, ◌≤◌, drop, ltb, if◌then◌else◌}
+use Rattle.terms.specs.Choice.{∣◌∣}
 use Rattle.text.specs.Bytes.{index_of}
 use Rattle.sheets.specs.Lines.{line_feed}
 use Rattle.sheets.specs.Refusals.{Found}

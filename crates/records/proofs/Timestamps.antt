@@ -1,4 +1,5 @@
 -- A timestamp by the place of its point: the two parts that the code cuts there, or no point at all.
+use Rattle.std.specs.Prelude.{if◌then◌else◌}
 use mathlib.Core.Path.{◌≡◌, refl, sym, ap, ◌∙◌}
 use mathlib.Core.Bool.{Bool, true, false}
 use mathlib.Core.List.{List, []}
@@ -6,7 +7,7 @@ use Prim.Native.Nat.{ℕ, ◌+◌, ◌-◌}
 use native.Mathlib.Omega.{arith}
 use lib.ListN.{take, drop, length-drop, drop_of_length-le}
 use lib.Seq.{take_all}
-use Rattle.terms.specs.Choice.{if◌then◌else◌, ∣◌∣}
+use Rattle.terms.specs.Choice.{∣◌∣}
 use Rattle.terms.proofs.Choice.{either}
 use Rattle.text.specs.Bytes.{index_of}
 use Rattle.traces.specs.Record.{is_integer, point, before_point, after_point, is_timestamp}

@@ -1,7 +1,7 @@
 -- The promises of the writers: the answer and every lent byte afterwards, for every input, refused ones too.
 -- Each is fixed by a total function; proofs/Determined shows that two outcomes it allows are equal.
-use Rattle.std.specs.Prelude.{◌≡◌, List, ℕ, ltb}
-use Rattle.terms.specs.Choice.{if◌then◌else◌, ∣◌∣}
+use Rattle.std.specs.Prelude.{◌≡◌, List, ℕ, ltb, if◌then◌else◌}
+use Rattle.terms.specs.Choice.{∣◌∣}
 use Rattle.terms.specs.Refusals.{accepted, buffer_too_short}
 use Rattle.sheets.specs.Result as Sheet
 use Rattle.sheets.specs.Result.{refused_sheet}

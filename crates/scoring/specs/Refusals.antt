@@ -1,7 +1,7 @@
 -- Score and ledger as total functions: of any sheet and lent memory, the answer and all lent memory afterwards.
 -- Too little memory is refusal 6, line 0; then the sheet decides. A refused call serves no request.
-use Rattle.std.specs.Prelude.{Bool, ◌&&◌, List, [], ℕ, ◌+◌, ◌*◌, leb}
-use Rattle.terms.specs.Choice.{if◌then◌else◌, ∣◌∣}
+use Rattle.std.specs.Prelude.{Bool, ◌&&◌, List, [], ℕ, ◌+◌, ◌*◌, leb, if◌then◌else◌}
+use Rattle.terms.specs.Choice.{∣◌∣}
 use Rattle.terms.specs.Limits.{most_pages, most_size}
 use Rattle.terms.specs.Refusals.{accepted, buffer_too_short}
 use Rattle.figures.specs.Words.{encode}

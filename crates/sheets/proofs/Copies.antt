@@ -1,5 +1,6 @@
 -- Request 2 of 02: which sheets mean what they meant, what changes where the policy is blank, and what a copy means.
 -- What a blank is, is a parameter of the reading: the laws compare any two, and only the promises name car and cart.
+use Rattle.std.specs.Prelude.{if◌then◌else◌}
 use mathlib.Core.Path.{◌≡◌, refl, sym, ap, ap₂, subst, ◌∙◌}
 use mathlib.Core.Bool.{Bool, true, false, true≢false}
 use mathlib.Core.List.{List, [], ◌∷◌, ◌++◌}
@@ -8,7 +9,7 @@ use native.Mathlib.Omega.{arith}
 use lib.Dec.{eqb}
 use borrow.Author.Tests.{ltb-true, ltb-false, le-ltb}
 use borrow.Table.Steps.{cases}
-use Rattle.terms.specs.Choice.{if◌then◌else◌, ∣◌∣, same}
+use Rattle.terms.specs.Choice.{∣◌∣, same}
 use Rattle.terms.specs.Limits.{most_sheet_bytes}
 use Rattle.terms.specs.Policies.{Named, car, cart, policies}
 use Rattle.terms.proofs.Choice.{by_test, either}

@@ -1,4 +1,5 @@
 -- The forms of numbers on a sheet: digits in form, whole numbers, miss costs; what a reader of numbers wants.
+use Rattle.std.specs.Prelude.{if◌then◌else◌}
 use mathlib.Core.Path.{◌≡◌, refl, sym, ap, ◌∙◌}
 use mathlib.Core.Bool.{Bool, true, false}
 use mathlib.Core.List.{List}
@@ -7,7 +8,7 @@ use native.Mathlib.Omega.{arith}
 use lib.ListN.{take, drop, length-drop}
 use lib.Seq.{take_all}
 use borrow.Author.Tests.{le-leb, lt-leb}
-use Rattle.terms.specs.Choice.{if◌then◌else◌, ∣◌∣}
+use Rattle.terms.specs.Choice.{∣◌∣}
 use Rattle.terms.specs.Refusals.{not_in_form}
 use Rattle.terms.proofs.Choice.{by_test, either}
 use Rattle.terms.proofs.Tests.{reads}

@@ -1,4 +1,5 @@
 -- The digits of a number: what they are worth, how many they are, and that the reader's definitions take them.
+use Rattle.std.specs.Prelude.{if◌then◌else◌}
 use mathlib.Core.Path.{◌≡◌, refl, sym, ap, ◌∙◌}
 use mathlib.Core.Bool.{Bool, true, false, false≢true}
 use mathlib.Core.Logic.{◌≢◌}
@@ -9,7 +10,7 @@ use lib.ListN.{get_or, length-append, get_or-append}
 use lib.Seq.{take-append_seam, drop-append-add}
 use lib.Dec.{ltb, eqb}
 use borrow.Author.Tests.{ltb-true, ltb-false, lt-ltb, le-ltb, ne_eqb, eqb-false}
-use Rattle.terms.specs.Choice.{if◌then◌else◌, ∣◌∣}
+use Rattle.terms.specs.Choice.{∣◌∣}
 use Rattle.terms.proofs.Choice.{by_test}
 use Rattle.terms.proofs.Tests.{reads}
 use Rattle.text.specs.Bytes.{index_of}

@@ -1,5 +1,6 @@
 -- The first place of a byte, the length where there is none, as the kit's `index_of` has it; the bytes among which the
 -- kit's `find` looks for it; and what a byte cuts off that separates others.
+use Rattle.std.specs.Prelude.{if◌then◌else◌}
 use mathlib.Core.Path.{◌≡◌, refl, ap, ◌∙◌}
 use mathlib.Core.Bool.{Bool, true, false}
 use mathlib.Core.List.{List, [], ◌∷◌}
@@ -9,7 +10,7 @@ use lib.ListN.{take, drop, length-drop}
 use lib.Seq.{take_all}
 use lib.Dec.{eqb}
 use Rattle.text.specs.Bytes.{slice, index_after, index_of}
-use Rattle.terms.specs.Choice.{if◌then◌else◌, ∣◌∣}
+use Rattle.terms.specs.Choice.{∣◌∣}
 use Rattle.text.proofs.Text.{drop_take}
 
 pub place_at_most : (x : ℕ) (s : List ℕ) → index_of x s ≤ ∣ s ∣

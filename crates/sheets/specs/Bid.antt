@@ -1,7 +1,7 @@
 -- What a bid sheet means: a bid, or a refusal's number with its line. Every byte sequence means exactly one of them.
 -- "The first line that is wrong decides the refusal, and its number from 1 is given with it".
-use Rattle.std.specs.Prelude.{List, [], ◌∷◌, ℕ, suc, ◌+◌, ltb}
-use Rattle.terms.specs.Choice.{if◌then◌else◌, ∣◌∣, same}
+use Rattle.std.specs.Prelude.{List, [], ◌∷◌, ℕ, suc, ◌+◌, ltb, if◌then◌else◌}
+use Rattle.terms.specs.Choice.{∣◌∣, same}
 use Rattle.terms.specs.Limits.{most_pages, most_sheet_bytes, known_size}
 use Rattle.terms.specs.Policies.{Named, car, cart, policies}
 use Rattle.terms.specs.Refusals.{policy_not_known, size_not_known, too_many_pages, sheet_too_long}

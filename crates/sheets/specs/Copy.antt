@@ -1,7 +1,7 @@
 -- The copy of a sheet already filed: "writes `car` where the value is blank, every other byte kept" (request 2 of 02).
 -- That the copy now means what the sheet meant when it was filed is CopiesMeanTheSame of Demands.
-use Rattle.std.specs.Prelude.{Bool, List, ◌++◌, ℕ, take, drop, ltb}
-use Rattle.terms.specs.Choice.{if◌then◌else◌, ∣◌∣}
+use Rattle.std.specs.Prelude.{Bool, List, ◌++◌, ℕ, take, drop, ltb, if◌then◌else◌}
+use Rattle.terms.specs.Choice.{∣◌∣}
 use Rattle.terms.specs.Limits.{most_sheet_bytes}
 use Rattle.terms.specs.Refusals.{sheet_too_long}
 use Rattle.text.specs.Text.{bytes, starts}

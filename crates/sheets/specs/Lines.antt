@@ -1,7 +1,7 @@
 -- A sheet's lines: "each closed by one line feed".
 -- Any bytes are lines: some closed ones, and then the end or bytes that no line feed closes.
-use Rattle.std.specs.Prelude.{List, [], ◌∷◌, ℕ, drop, eqb}
-use Rattle.terms.specs.Choice.{if◌then◌else◌, ∣◌∣}
+use Rattle.std.specs.Prelude.{List, [], ◌∷◌, ℕ, drop, eqb, if◌then◌else◌}
+use Rattle.terms.specs.Choice.{∣◌∣}
 use Rattle.terms.specs.Refusals.{no_such_line}
 use Rattle.text.specs.Text.{starts}
 use Rattle.sheets.specs.Number.{Value, means, wrong}

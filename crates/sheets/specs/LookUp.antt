@@ -1,7 +1,7 @@
 -- The look-up by line number: where in the sheet the value of a line stands.
 -- "the bytes after the first `=` and before the line feed, as that stretch of the sheet itself"
-use Rattle.std.specs.Prelude.{List, ℕ, zero, suc, ◌+◌, ltb}
-use Rattle.terms.specs.Choice.{if◌then◌else◌, ∣◌∣}
+use Rattle.std.specs.Prelude.{List, ℕ, zero, suc, ◌+◌, ltb, if◌then◌else◌}
+use Rattle.terms.specs.Choice.{∣◌∣}
 use Rattle.text.specs.Bytes.{index_of}
 use Rattle.sheets.specs.Lines.{Lines, end, unclosed, line}
 

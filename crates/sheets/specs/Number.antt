@@ -1,7 +1,7 @@
 -- The form of a number on a sheet, once: whole numbers, and the miss cost with its comma.
 -- Whatever reads a number on a sheet cites `digits_form`; what digits are, and are worth, is in the crate text.
-use Rattle.std.specs.Prelude.{Bool, true, false, not, List, [], ◌∷◌, ℕ, ◌+◌, ◌*◌, get_or, take, drop, leb, eqb}
-use Rattle.terms.specs.Choice.{if◌then◌else◌, ∣◌∣, every}
+use Rattle.std.specs.Prelude.{Bool, true, false, not, List, [], ◌∷◌, ℕ, ◌+◌, ◌*◌, get_or, take, drop, leb, eqb, if◌then◌else◌}
+use Rattle.terms.specs.Choice.{∣◌∣, every}
 use Rattle.terms.specs.Refusals.{not_in_form}
 use Rattle.text.specs.Bytes.{index_of}
 use Rattle.text.specs.Digits.{zero_digit, all_digits, value}

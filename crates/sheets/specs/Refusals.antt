@@ -1,7 +1,7 @@
 -- Reader, look-up, writer and copy as total functions: of any bytes and buffers, the answer and lent memory afterwards.
 -- A refused call's answer is its number with zeros elsewhere (reader, copy: also the line), and all lent memory stays.
-use Rattle.std.specs.Prelude.{not, List, ◌++◌, ℕ, drop, ltb}
-use Rattle.terms.specs.Choice.{if◌then◌else◌, ∣◌∣}
+use Rattle.std.specs.Prelude.{not, List, ◌++◌, ℕ, drop, ltb, if◌then◌else◌}
+use Rattle.terms.specs.Choice.{∣◌∣}
 use Rattle.terms.specs.Limits.{most_pages, most_sheet_bytes, least_result_bytes}
 use Rattle.terms.specs.Policies.{known_policy}
 use Rattle.terms.specs.Refusals.{accepted, policy_not_known, buffer_too_short, sheet_too_long, no_such_line}

@@ -1,7 +1,6 @@
 -- What a result sheet says, and the two lines of a refused sheet.
 -- The writer takes any numbers; only the policy has to be known.
-use Rattle.std.specs.Prelude.{List, [], ◌∷◌, ◌++◌, ℕ, zero, suc, ◌+◌, ◌/◌, ◌%◌, ltb}
-use Rattle.terms.specs.Choice.{if◌then◌else◌}
+use Rattle.std.specs.Prelude.{List, [], ◌∷◌, ◌++◌, ℕ, zero, suc, ◌+◌, ◌/◌, ◌%◌, ltb, if◌then◌else◌}
 use Rattle.terms.specs.Policies.{policy_name}
 use Rattle.text.specs.Text.{bytes}
 use Rattle.text.specs.Digits.{zero_digit}

@@ -1,7 +1,7 @@
 -- What the tests of soundness need of the words that they are given, and the parts of soundness that they answer.
 -- They are internal: the public operations of directory ask for nothing.
-use Rattle.std.specs.Prelude.{◌≡◌, Bool, true, List, [], ◌∷◌, ◌++◌, ℕ, ◌+◌, ◌*◌, ◌≤◌, get_or, leb, ltb, eqb}
-use Rattle.terms.specs.Choice.{if◌then◌else◌, ∣◌∣, every}
+use Rattle.std.specs.Prelude.{◌≡◌, Bool, true, List, [], ◌∷◌, ◌++◌, ℕ, ◌+◌, ◌*◌, ◌≤◌, get_or, leb, ltb, eqb, if◌then◌else◌}
+use Rattle.terms.specs.Choice.{∣◌∣, every}
 use Rattle.terms.specs.Policies.{known_policy}
 use Rattle.figures.specs.Entry.{bits, none_of, differ}
 use Rattle.figures.specs.Directory.{unit, listed}

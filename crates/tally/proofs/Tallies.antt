@@ -1,11 +1,11 @@
 -- What a run learns of its tally: it is the tally of figures' Run, and n answers make it no larger than n answers can.
 -- So a tally of fewer than 1,000 answers is Small, as `counted` asks.
+use Rattle.std.specs.Prelude.{if◌then◌else◌}
 use mathlib.Core.Bool.{Bool, true, false}
 use mathlib.Core.Path.{◌≡◌}
 use Prim.Native.Nat.{ℕ, ◌+◌, ◌*◌, ◌≤◌, ◌<◌}
 use lib.Dec.{eqb, leb}
 use native.Mathlib.Omega.{arith}
-use Rattle.terms.specs.Choice.{if◌then◌else◌}
 use Rattle.figures.specs.Request as Request
 use Rattle.figures.specs.Run as Run
 use Rattle.engine.specs.declared.Served.{Served}

@@ -1,7 +1,6 @@
 -- A tally brought up to date by one answer, as figures' Run.noted has it, and how large a tally may be.
 -- `defined` reads the code's struct as the tally of the definitions.
-use Rattle.std.specs.Prelude.{◌+◌, ◌≤◌, eqb, leb}
-use Rattle.terms.specs.Choice.{if◌then◌else◌}
+use Rattle.std.specs.Prelude.{◌+◌, ◌≤◌, eqb, leb, if◌then◌else◌}
 use Rattle.figures.specs.Run as Run
 use Rattle.engine.specs.declared.Served.{Served}
 use Rattle.tally.specs.declared.Tally.{Tally}

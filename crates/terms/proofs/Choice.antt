@@ -1,7 +1,7 @@
 -- What holds of a choice by a test, from what holds on each side of it.
+use Rattle.std.specs.Prelude.{if◌then◌else◌}
 use mathlib.Core.Path.{◌≡◌, refl}
 use mathlib.Core.Bool.{Bool, true, false, ◌||◌}
-use Rattle.terms.specs.Choice.{if◌then◌else◌}
 
 -- What each outcome of a test gives holds of the choice by it; of a choice by two tests, likewise.
 pub by_test : {A : Type 0} (P : A → Type 0) (b : Bool) {x y : A}

@@ -1,12 +1,12 @@
 -- Tests read as facts: `simp reads` turns a list of tests that all hold into a product of facts, and back.
 -- A test by `||` is not read; split it by cases. At the end, two tests that agree, and a test that a function answered.
+use Rattle.std.specs.Prelude.{if◌then◌else◌}
 use mathlib.Core.Path.{◌≡◌, refl, sym, ◌∙◌}
 use mathlib.Core.Bool.{Bool, true, false, not, false≢true, and-eq-true_iff}
 use mathlib.Core.Logic.{◌↔◌}
 use Prim.Native.Nat.{ℕ, ◌≤◌, ◌<◌}
 use lib.Dec.{eqb, leb, ltb}
 use borrow.Author.Tests.{ltb-true, lt-ltb, leb-true, le-leb, eqb-true, eq-eqb, not-true, not-false}
-use Rattle.terms.specs.Choice.{if◌then◌else◌}
 
 pub leb_iff : (a b : ℕ) → (leb a b ≡ true) ↔ (a ≤ b)
 leb_iff a b = (leb-true a b, le-leb a b)

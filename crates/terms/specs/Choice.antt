@@ -1,14 +1,9 @@
 -- The words that rules are written with: a choice by a test, all of some tests, the size of a list, two lists compared,
 -- numbers in a row.
 -- Nothing here is about caches or sheets.
-use Rattle.std.specs.Prelude.{Bool, true, false, List, [], ◌∷◌, ℕ, zero, suc, length, leb, eqb}
+use Rattle.std.specs.Prelude.{Bool, true, false, List, [], ◌∷◌, ℕ, zero, suc, length, leb, eqb, if◌then◌else◌}
 
-infix 10 if◌then◌else◌
 infix 60 ∣◌∣
-abbrev pub if◌then◌else◌ {ℓ} : {A : Type ℓ} → Bool → A → A → A
-if true then a else b = a
-if false then a else b = b
-
 abbrev pub ∣◌∣ {ℓ} : {A : Type ℓ} → List A → ℕ
 ∣ l ∣ = length l
 

@@ -1,8 +1,7 @@
 -- The policies by number and name: what word 0 of a directory and the value of `policy=` say.
 -- What a policy does is its row in figures/specs/Policy.
-use Rattle.std.specs.Prelude.{Bool, false, ◌||◌, List, [], ◌∷◌, ℕ, eqb}
+use Rattle.std.specs.Prelude.{Bool, false, ◌||◌, List, [], ◌∷◌, ℕ, eqb, if◌then◌else◌}
 use Prim.Native.String.{String}
-use Rattle.terms.specs.Choice.{if◌then◌else◌}
 
 pub record Named : Type 0 where
   pub number : ℕ

@@ -1,5 +1,6 @@
 -- Bytes from a place on and up to another; a key in front of bytes, read on from a place, as a loop does; and two texts
 -- of one length, which are the same where one starts with the other.
+use Rattle.std.specs.Prelude.{if◌then◌else◌}
 use mathlib.Core.Path.{◌≡◌, refl, sym, ap, ap₂, ◌∙◌}
 use mathlib.Core.Bool.{Bool, true, false, false≢true}
 use mathlib.Core.List.{List, [], ◌∷◌, ◌++◌}
@@ -11,7 +12,7 @@ use lib.ListN.{get_or, take, drop, length-drop}
 use lib.Seq.{drop-cons, take-nil, length-take-le}
 use lib.Dec.{eqb}
 use borrow.Author.Tests.{eq-eqb, ne_eqb}
-use Rattle.terms.specs.Choice.{if◌then◌else◌, ∣◌∣, same}
+use Rattle.terms.specs.Choice.{∣◌∣, same}
 use Rattle.terms.proofs.Choice.{either}
 use Rattle.terms.proofs.Tests.{reads}
 use Rattle.text.specs.Text.{starts}

@@ -1,7 +1,6 @@
 -- What a digit is, and what digits are worth, however many they are.
 -- Which digits are a number is not said here: a sheet's numbers and a trace's have their own forms.
-use Rattle.std.specs.Prelude.{Bool, true, false, List, [], ◌∷◌, ℕ, ◌+◌, ◌-◌, ◌*◌, leb}
-use Rattle.terms.specs.Choice.{if◌then◌else◌}
+use Rattle.std.specs.Prelude.{Bool, true, false, List, [], ◌∷◌, ℕ, ◌+◌, ◌-◌, ◌*◌, leb, if◌then◌else◌}
 
 -- The byte "0"
 abbrev pub zero_digit : ℕ

@@ -1,9 +1,8 @@
 -- Bytes, as a reader quotes them and looks for a key; where a byte first stands is the kit's `index_of`.
 -- Nothing here is about sheets.
-use Rattle.std.specs.Prelude.{Bool, true, false, List, [], ◌∷◌, ℕ, eqb}
+use Rattle.std.specs.Prelude.{Bool, true, false, List, [], ◌∷◌, ℕ, eqb, if◌then◌else◌}
 use Prim.Native.Char.{code}
 use Prim.Native.String.{String, [] as none, ◌∷◌ as ◌then◌}
-use Rattle.terms.specs.Choice.{if◌then◌else◌}
 
 -- The bytes of a quoted text.
 abbrev pub bytes : String → List ℕ

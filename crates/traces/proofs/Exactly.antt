@@ -1,5 +1,6 @@
 -- A trace is taken where its lines are in the form and their pages are few and small enough, and nowhere else.
 -- Line by line, with the pages that stand before the line.
+use Rattle.std.specs.Prelude.{if◌then◌else◌}
 use mathlib.Core.Path.{◌≡◌, refl, sym, ap, ◌∙◌}
 use mathlib.Core.Bool.{Bool, true, false, true≢false}
 use mathlib.Core.List.{List, [], ◌∷◌, ◌++◌}
@@ -9,7 +10,7 @@ use lib.ListN.{get_or, length-append}
 use lib.Dec.{ltb, eqb}
 use borrow.Author.Tests.{ltb-true, ltb-false, le-ltb}
 use borrow.Table.Steps.{cases}
-use Rattle.terms.specs.Choice.{if◌then◌else◌, ∣◌∣, all_at_most}
+use Rattle.terms.specs.Choice.{∣◌∣, all_at_most}
 use Rattle.terms.proofs.Tests.{reads}
 use Rattle.sheets.specs.Lines.{Lines, end, unclosed, line, lines}
 use Rattle.traces.specs.Record.{Record, read, write, not_in_form, record_of}

@@ -1,5 +1,6 @@
 -- A sheet put together with `cat`: behind a good sheet without pages, the page lines of a trace are its pages.
 -- The lines of two texts, the first closed, are those of the first and then those of the second.
+use Rattle.std.specs.Prelude.{if◌then◌else◌}
 use mathlib.Core.Path.{◌≡◌, refl, ap, ◌∙◌}
 use mathlib.Core.Bool.{Bool, true, false, false≢true}
 use mathlib.Core.List.{List, [], ◌∷◌, ◌++◌}
@@ -10,7 +11,7 @@ use lib.Seq.{append_snoc}
 use lib.Dec.{eqb}
 use borrow.Author.Tests.{lt-ltb, le-ltb, ne_eqb}
 use borrow.Table.Steps.{cases}
-use Rattle.terms.specs.Choice.{if◌then◌else◌, ∣◌∣, all_at_most}
+use Rattle.terms.specs.Choice.{∣◌∣, all_at_most}
 use Rattle.terms.specs.Limits.{most_sheet_bytes}
 use Rattle.terms.specs.Policies.{cart}
 use Rattle.terms.specs.Refusals.{no_such_line}

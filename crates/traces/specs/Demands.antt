@@ -1,7 +1,7 @@
 -- Every promise about the definitions, each beside the sentence that asks for it; behind it, in brackets, the file of
 -- proofs/ that proves it.
-use Rattle.std.specs.Prelude.{◌≡◌, Bool, true, false, ◌↔◌, List, [], ◌++◌, ℕ, ◌+◌, ◌*◌, ◌≤◌, ◌<◌, get_or, eqb}
-use Rattle.terms.specs.Choice.{if◌then◌else◌, ∣◌∣, all_at_most}
+use Rattle.std.specs.Prelude.{◌≡◌, Bool, true, false, ◌↔◌, List, [], ◌++◌, ℕ, ◌+◌, ◌*◌, ◌≤◌, ◌<◌, get_or, eqb, if◌then◌else◌}
+use Rattle.terms.specs.Choice.{∣◌∣, all_at_most}
 use Rattle.sheets.specs.Lines.{Lines, end, unclosed, line, lines}
 use Rattle.sheets.specs.Bid.{Bid, bid, meaning}
 use Rattle.traces.specs.Record.{Record, read, write, not_in_form, record_of}

@@ -1,7 +1,6 @@
 -- The fields of a line: "Fields are separated by a comma".
 -- Any bytes are fields: some that a comma follows, and the last.
-use Rattle.std.specs.Prelude.{List, [], ◌∷◌, ℕ, eqb}
-use Rattle.terms.specs.Choice.{if◌then◌else◌}
+use Rattle.std.specs.Prelude.{List, [], ◌∷◌, ℕ, eqb, if◌then◌else◌}
 use Rattle.sheets.specs.Number.{comma}
 
 pub data Fields : Type 0 where

@@ -1,7 +1,7 @@
 -- A record of a trace: "Five fields are required, in this order; any number of further fields may follow".
 -- A line is a read or a write, or it is not in the council's form.
-use Rattle.std.specs.Prelude.{Bool, false, List, [], ◌∷◌, ℕ, ◌+◌, take, drop, leb}
-use Rattle.terms.specs.Choice.{if◌then◌else◌, ∣◌∣, every, same}
+use Rattle.std.specs.Prelude.{Bool, false, List, [], ◌∷◌, ℕ, ◌+◌, take, drop, leb, if◌then◌else◌}
+use Rattle.terms.specs.Choice.{∣◌∣, every, same}
 use Rattle.text.specs.Bytes.{index_of}
 use Rattle.text.specs.Text.{bytes}
 use Rattle.text.specs.Digits.{all_digits, value}

@@ -1,7 +1,7 @@
 -- The reader of a trace as a total function: of any bytes, unit and buffer, the answer and the lent words afterwards.
 -- And what the program prints: a line `page=` for each page, or the two lines of a refusal.
-use Rattle.std.specs.Prelude.{Bool, List, [], ◌∷◌, ◌++◌, ℕ, ltb}
-use Rattle.terms.specs.Choice.{if◌then◌else◌, ∣◌∣}
+use Rattle.std.specs.Prelude.{Bool, List, [], ◌∷◌, ◌++◌, ℕ, ltb, if◌then◌else◌}
+use Rattle.terms.specs.Choice.{∣◌∣}
 use Rattle.terms.specs.Limits.{most_pages}
 use Rattle.terms.specs.Refusals.{accepted, buffer_too_short}
 use Rattle.text.specs.Text.{bytes}

@@ -1,7 +1,7 @@
 -- The pages that a record touches: "every page it touches, lowest first, and none when its size is 0".
 -- That these are the pages with a byte of the record in them is TouchesExactly of Demands.
-use Rattle.std.specs.Prelude.{Bool, false, List, ℕ, ◌+◌, ◌-◌, ◌*◌, ◌/◌, ltb, eqb}
-use Rattle.terms.specs.Choice.{if◌then◌else◌, numbers_from}
+use Rattle.std.specs.Prelude.{Bool, false, List, ℕ, ◌+◌, ◌-◌, ◌*◌, ◌/◌, ltb, eqb, if◌then◌else◌}
+use Rattle.terms.specs.Choice.{numbers_from}
 use Rattle.terms.specs.Limits.{most_page}
 
 -- "Blocks are 512 bytes and pages 4,096"

@@ -1,7 +1,7 @@
 -- What a trace comes to for one unit: the page numbers of its reads, or a refusal's number with its line.
 -- "from the top 10 .., 11 .., 5 for a page too many": the first line that is wrong decides.
-use Rattle.std.specs.Prelude.{Bool, List, [], ◌++◌, ℕ, suc, ◌+◌, ltb, eqb}
-use Rattle.terms.specs.Choice.{if◌then◌else◌, ∣◌∣}
+use Rattle.std.specs.Prelude.{Bool, List, [], ◌++◌, ℕ, suc, ◌+◌, ltb, eqb, if◌then◌else◌}
+use Rattle.terms.specs.Choice.{∣◌∣}
 use Rattle.terms.specs.Limits.{most_pages, most_trace_bytes}
 use Rattle.terms.specs.Refusals.{too_many_pages, sheet_too_long, no_record, page_too_large}
 use Rattle.sheets.specs.Lines.{Lines, end, unclosed, line, lines}
