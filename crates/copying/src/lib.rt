@@ -47,6 +47,7 @@ fn put_with_car(out: &mut [u8], sheet: &[u8]) -> usize
 
 // Copies a sheet to the front of out. Refusals: 6 where out has no room for every copy, those of the sheet as it was
 // filed, and 7 where the copy is too long.
+#[tactic(auto, using(crate::proofs::Copying::short_buffer))]
 pub fn copy(sheet: &[u8], out: &mut [u8]) -> Copied
     ensures { SheetCopied sheet.now out.old result out.new }
 {
@@ -75,6 +76,7 @@ pub fn copy(sheet: &[u8], out: &mut [u8]) -> Copied
 }
 
 // What the program copy prints of a sheet, in front of out: the copy, or the two lines of a refusal. Refusal 6.
+#[tactic(auto, using(crate::proofs::Printing::none_printed))]
 pub fn answer(sheet: &[u8], out: &mut [u8]) -> result::Written
     ensures { CopyAnswered sheet.now out.old result out.new }
 {
