@@ -1,7 +1,6 @@
 -- A turn of the loop is one look, and the code's test of the flags is line 27's of T1's head.
 -- What `turn` says of it is what the loop keeps.
 use Rattle.std.proofs.Common.{◌≡◌, Bool, List, ℕ, false, sym, ◌∙◌, arith}
-use Rattle.figures.specs.Cart as Cart
 use Rattle.engine.specs.Heads.{front_of}
 use Rattle.engine.specs.Passes.{goes_on}
 use Rattle.engine.proofs.Looks.{second_stops}

@@ -1,6 +1,6 @@
 -- The flags tell the head's bit and filter, and with them which move the look names.
 -- For each move engine's Looks has a law.
-use Rattle.std.proofs.Common.{◌≡◌, Bool, true, false, List, ◌∷◌, ℕ, ◌≤◌, refl, sym, ◌∙◌, arith}
+use Rattle.std.proofs.Common.{◌≡◌, Bool, true, false, List, ◌∷◌, ℕ, refl, sym, ◌∙◌, arith}
 use Rattle.terms.proofs.Tests.{unless_iff}
 use Rattle.figures.specs.Entry.{Entry, cleared, made_long, is_long, drop_head}
 use Rattle.figures.specs.Directory.{Directory, T1}
