@@ -23,40 +23,42 @@ use Rattle.entries.proofs.Laid.{header}
 use Rattle.entries.proofs.Rooms.{roomy}
 use Rattle.cart.specs.Passing.{Raisable, CountsFit}
 
--- By where the page was.
-module _ {x : ℕ} {h : Hand} {w w₁ : List ℕ} {kind : ℕ}
-    (r : Returned h.dir x (new_long x) T1 h.n_s h.n_l w w₁ kind) where
-  pub from-B1 : ¬ (kind ≡ 4) → ¬ (kind ≡ 2) → PlacedAs Holds cart_policy x h kind w₁
+-- By where the page was. m and n are the dividends for a page found in B1 and in B2: each matters to its own case.
+module _ {x : ℕ} {h : Hand} {w w₁ : List ℕ} {kind : ℕ} where
+  pub from-B1 : {n : ℕ} → Returned h.dir x (new_long x) T1 h.n_s n w w₁ kind → ¬ (kind ≡ 4) → ¬ (kind ≡ 2)
+      → PlacedAs Holds cart_policy x h kind w₁
   unfolding place_b1
-  from-B1 not-four not-two =
+  from-B1 r not-four not-two =
       let was = was_in_b1 r not-two not-four in
       rw was.0 (placed_b1 Holds cart_policy x h was.1 was.2)
 
-  pub from-B2 : {w₂ : List ℕ} → kind ≡ 4 → Makes Holds (raise h.n_s) w₁ w₂ → PlacedAs Holds cart_policy x h kind w₂
+  pub from-B2 : {m : ℕ} → Returned h.dir x (new_long x) T1 m h.n_l w w₁ kind
+      → {w₂ : List ℕ} → kind ≡ 4 → Makes Holds (raise h.n_s) w₁ w₂ → PlacedAs Holds cart_policy x h kind w₂
   unfolding place_b2
-  from-B2 is raised =
+  from-B2 r is raised =
       let was = was_in_b2 r is in
       let back = returned_from_b2 h.dir x (new_long x) T1 h.n_l in
       rw is (placed_b2 Holds cart_policy x h was.0 was.1 (raised back was.2))
 
-  pub new_page : {w₂ : List ℕ} → kind ≡ 2 → (w₁ ≡ w → Holds (place_new x (trim h.dir)) w₂)
+  pub new_page : {m n : ℕ} → Returned h.dir x (new_long x) T1 m n w w₁ kind
+      → {w₂ : List ℕ} → kind ≡ 2 → (w₁ ≡ w → Holds (place_new x (trim h.dir)) w₂)
       → PlacedAs Holds cart_policy x h kind w₂
-  new_page is placed =
+  new_page r is placed =
       let was = was_new r is in
       rw is (placed_new Holds cart_policy x h was.0 was.1 (placed was.2))
 
 -- The words then are such that q may be raised for a page from B2.
-module _ {x : ℕ} {w w₁ : List ℕ} {n_s : ShortCount} {n_l : LongCount} {kind : ℕ}
-    (r : Returned (decode w) x (new_long x) T1 n_s.0 n_l.0 w w₁ kind) where
+module _ {x m n : ℕ} {w w₁ : List ℕ} {n_s : ShortCount} {n_l : LongCount} {kind : ℕ}
+    (r : Returned (decode w) x (new_long x) T1 m n w w₁ kind) where
   pub raise_ready : kind ≡ 4 → Freed w → CountsFit w n_s n_l → Room w₁ × Raisable w₁ n_s.0
   raise_ready is free fit =
       let was = was_in_b2 r is in
       let d = decode w in
-      let d₁ = returned_from_b2 d x (new_long x) T1 n_l.0 in
+      let d₁ = returned_from_b2 d x (new_long x) T1 n in
       let h = header d w free.is in
       let h₁ = header d₁ w₁ was.2 in
-      let n = length_tail d.t1 (new_long x) in
-      let m = length_without x d.b2 was.1 in (
+      let t1 = length_tail d.t1 (new_long x) in
+      let b2 = length_without x d.b2 was.1 in (
         roomy d₁ was.2 (omega (arith, free.one_free, free.history_most)) (omega (arith, free.bounds)),
         omega (arith, free.bounds, free.one_free, fit),
       )

@@ -2,44 +2,25 @@
 -- And that a page fits in after it.
 use mathlib.Core.Path.{◌≡◌}
 use mathlib.Core.List.{List}
-use Prim.Native.Nat.{ℕ, ◌+◌, ◌*◌, ◌≤◌, ◌<◌}
-use native.Mathlib.Omega.{arith}
+use Prim.Native.Nat.{ℕ, ◌+◌, ◌*◌, ◌≤◌}
 use lib.ListN.{get_or}
-use borrow.Author.Tests.{eq-eqb, ne_eqb, lt-ltb, le-ltb}
 use Rattle.terms.specs.Choice.{∣◌∣}
-use Rattle.figures.specs.Directory.{Directory, B1, B2, list_of, cached, remembered}
+use Rattle.figures.specs.Directory.{Directory, cached, remembered}
 use Rattle.figures.specs.Words.{n_b1, n_b2}
 use Rattle.figures.specs.Cart.{trim}
 use Rattle.laws.proofs.Cart.{cart_trims}
 use Rattle.engine.specs.Passes.{oldest_of}
-use Rattle.engine.proofs.CartTrim.{trims, trims_not, oldest_has_head}
+use Rattle.engine.proofs.CartTrim.{trims, trims_not}
 use Rattle.entries.specs.Holds.{Holds}
 use Rattle.entries.specs.Stretches.{name_of}
 use Rattle.entries.specs.Leaves.{ListHeadDropped}
-use Rattle.entries.proofs.Laid.{header, length_of_list}
+use Rattle.entries.proofs.Laid.{header}
 use Rattle.entries.proofs.Rooms.{RoomForOne, trimmed_fits}
-
--- By the tests of `oldest_of`.
-module _ (q k1 k2 : ℕ) where
-  pub oldest_above : q < k1 → oldest_of q k1 k2 ≡ B1
-  oldest_above above = rw (lt-ltb q k1 above)
-
-  pub oldest_empty : k1 ≤ q → k2 ≡ 0 → oldest_of q k1 k2 ≡ B1
-  oldest_empty below none = rw (le-ltb q k1 below, eq-eqb k2 0 none)
-
-  pub oldest_other : k1 ≤ q → ¬ (k2 ≡ 0) → oldest_of q k1 k2 ≡ B2
-  oldest_other below some = rw (le-ltb q k1 below, ne_eqb k2 0 some)
 
 module _ (d : Directory) {w : List ℕ} (b : ℕ) (is : Holds d w)
     (named : name_of b ≡ oldest_of (get_or w 3 0) (n_b1 w) (n_b2 w)) where
   named_in_d : name_of b ≡ oldest_of d.q ∣ d.b1 ∣ ∣ d.b2 ∣
   named_in_d = let h = header d w is in rw (← h.q, ← h.b1, ← h.b2) named
-
-  pub has_head : b ≤ 3 → 1 ≤ n_b1 w + n_b2 w → 1 ≤ get_or w (4 + b) 0
-  has_head known any =
-      let h = header d w is in
-      let some : 1 ≤ ∣ list_of (name_of b) d ∣ = rw named_in_d (oldest_has_head d (omega arith)) in
-      omega (arith, length_of_list b d w is known)
 
   pub head_dropped : {w' : List ℕ} → ListHeadDropped b w w' → cached d + remembered d ≤ 2 * d.c
       → remembered d ≡ d.c + 1 → Holds (trim d) w'

@@ -43,7 +43,7 @@ raise-requires-clause-raisable c =
 
 pub returns-then-kind-eq-FROM_B2 : goal.returns-then-kind-eq-FROM_B2
 returns-then-kind-eq-FROM_B2 c h is short long =
-    from-B2 (c.come_back-kind.ensures h.dir (new_long c.args.page) h.n_s h.n_l is refl refl short long)
+    from-B2 (c.come_back-kind.ensures h.dir (new_long c.args.page) _ h.n_l is refl refl refl long)
     c.if-kind-eq-FROM_B2.true (λ d on. rw short at (c.raise.ensures d on))
 
 pub trim-requires : goal.trim-requires
@@ -66,11 +66,11 @@ place_new-requires-clause-dir_in_bounds c =
 
 pub returns-then-kind-eq-NEW : goal.returns-then-kind-eq-NEW
 returns-then-kind-eq-NEW c h is short long =
-    new_page (c.come_back-kind.ensures h.dir (new_long c.args.page) h.n_s h.n_l is refl refl short long)
+    new_page (c.come_back-kind.ensures h.dir (new_long c.args.page) _ _ is refl refl refl refl)
     c.if-kind-eq-NEW.true
     (λ same. c.place_new.ensures (Cart.trim h.dir) (c.trim.ensures h.dir (is ∙ sym same)))
 
 pub returns-else-kind-eq-NEW : goal.returns-else-kind-eq-NEW
 returns-else-kind-eq-NEW c h is short long =
-    from-B1 (c.come_back-kind.ensures h.dir (new_long c.args.page) h.n_s h.n_l is refl refl short long)
+    from-B1 (c.come_back-kind.ensures h.dir (new_long c.args.page) h.n_s _ is refl refl short refl)
     c.if-kind-eq-FROM_B2.false c.if-kind-eq-NEW.false

@@ -60,7 +60,8 @@ overflow_sub-result c =
     let h = c.requires.head_flags in
     let p = c.requires.passing in
     let long = lengthens_is h c.becomes_long.ensures c.if-becomes_long.true p.dir p.shown in
-    short_counted p.accounts (front h p.dir p.shown) (is_short_and_long_enough (front_of p.dir.t1) p.dir long).0
+    let short = (is_short_and_long_enough (front_of p.dir.t1) p.dir long).0 in
+    omega (arith, short_counted p.accounts (front h p.dir p.shown) short)
 
 pub overflow_add-result : goal.overflow_add-result
 overflow_add-result c =
