@@ -1,11 +1,12 @@
 -- A page placed by CART, from what a page that comes back leaves: q raised after one from B2, trim before a new one.
 -- By the answer's kind.
-use mathlib.Core.Path.{◌≡◌}
+use mathlib.Core.Path.{◌≡◌, refl, ap}
 use mathlib.Core.List.{List}
-use Prim.Native.Nat.{ℕ}
+use Prim.Native.Nat.{ℕ, ◌+◌}
 use native.Mathlib.Omega.{arith}
+use Rattle.terms.specs.Choice.{∣◌∣}
 use Rattle.figures.specs.Entry.{new_long}
-use Rattle.figures.specs.Directory.{T1, place_new}
+use Rattle.figures.specs.Directory.{Directory, T1, place_new, remembered}
 use Rattle.figures.specs.Words.{decode}
 use Rattle.figures.specs.Hand.{Hand}
 use Rattle.figures.specs.Cart.{raise, trim, place_b1, place_b2}
@@ -17,7 +18,7 @@ use Rattle.engine.specs.Shown.{Makes, PlacedAs}
 use Rattle.engine.proofs.Placed.{placed_b1, placed_b2, placed_new}
 use Rattle.entries.specs.Holds.{Holds}
 use Rattle.entries.specs.Stretches.{Room}
-use Rattle.entries.specs.Returning.{Freed, Returned, returned_from_b2}
+use Rattle.entries.specs.Returning.{Freed, Returned, from-b1, from-b2, is_new, returned_from_b1, returned_from_b2}
 use Rattle.entries.proofs.ComingBack.{was_new, was_in_b1, was_in_b2}
 use Rattle.entries.proofs.Laid.{header}
 use Rattle.entries.proofs.Rooms.{roomy}
@@ -47,18 +48,29 @@ module _ {x : ℕ} {h : Hand} {w w₁ : List ℕ} {kind : ℕ} where
       let was = was_new r is in
       rw is (placed_new Holds cart_policy x h was.0 was.1 (placed was.2))
 
--- The words then are such that q may be raised for a page from B2.
-module _ {x m n : ℕ} {w w₁ : List ℕ} {n_s : ShortCount} {n_l : LongCount} {kind : ℕ}
-    (r : Returned (decode w) x (new_long x) T1 m n w w₁ kind) where
-  pub raise_ready : kind ≡ 4 → Freed w → CountsFit w n_s n_l → Room w₁ × Raisable w₁ n_s.0
-  raise_ready is free fit =
-      let was = was_in_b2 r is in
-      let d = decode w in
-      let d₁ = returned_from_b2 d x (new_long x) T1 n in
-      let h = header d w free.is in
-      let h₁ = header d₁ w₁ was.2 in
-      let t1 = length_tail d.t1 (new_long x) in
-      let b2 = length_without x d.b2 was.1 in (
-        roomy d₁ was.2 (omega (arith, free.one_free, free.history_most)) (omega (arith, free.bounds)),
-        omega (arith, free.bounds, free.one_free, fit),
-      )
+-- The words that a page from a history leaves are such that q may be raised.
+module _ {w w₁ : List ℕ} {n_s : ShortCount} {n_l : LongCount} (free : Freed w) (fit : CountsFit w n_s n_l)
+  where
+    raisable : (d₁ : Directory) → Holds d₁ w₁ → let d = decode w in
+        d₁.c ≡ d.c → d₁.q ≡ d.q → ∣ d₁.t1 ∣ ≡ ∣ d.t1 ∣ + 1 → d₁.t2 ≡ d.t2 → remembered d₁ + 1 ≡ remembered d
+        → Room w₁ × Raisable w₁ n_s.0
+    raisable d₁ is same_c same_q one_more same_t2 one_less =
+        let d = decode w in
+        let h = header d w free.is in
+        let h₁ = header d₁ w₁ is in
+        let t2 = ap ∣◌∣ same_t2 in (
+          roomy d₁ is (omega (arith, free.one_free, free.history_most)) (omega (arith, free.bounds)),
+          omega (arith, free.bounds, free.one_free, fit),
+        )
+
+    pub raise_ready : {x m n kind : ℕ} → Returned (decode w) x (new_long x) T1 m n w w₁ kind → ¬ (kind ≡ 2)
+        → Room w₁ × Raisable w₁ n_s.0
+    raise_ready {x} {m} (from-b1 found is) not_new =
+        let d = decode w in
+        raisable (returned_from_b1 d x (new_long x) T1 m) is refl refl (length_tail d.t1 (new_long x)) refl
+        (omega (arith, length_without x d.b1 found))
+    raise_ready {x} {n = n} (from-b2 not-b1 found is) not_new =
+        let d = decode w in
+        raisable (returned_from_b2 d x (new_long x) T1 n) is refl refl (length_tail d.t1 (new_long x)) refl
+        (omega (arith, length_without x d.b2 found))
+    raise_ready (is_new not-b1 not-b2 same) not_new = absurd (not_new refl)

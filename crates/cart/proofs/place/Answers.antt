@@ -33,13 +33,13 @@ pub raise-requires-clause-room : goal.raise-requires-clause-room
 raise-requires-clause-room c =
     let s = c.requires in
     let back = c.come_back-kind.ensures (decode c.args.dir.now) (new_long c.args.page) _ _ s.freed.is refl refl refl refl in
-    (raise_ready back c.if-kind-eq-FROM_B2.true s.freed s.counts_fit).0
+    (raise_ready s.freed s.counts_fit back (λ new. omega arith)).0
 
 pub raise-requires-clause-raisable : goal.raise-requires-clause-raisable
 raise-requires-clause-raisable c =
     let s = c.requires in
     let back = c.come_back-kind.ensures (decode c.args.dir.now) (new_long c.args.page) _ _ s.freed.is refl refl refl refl in
-    (raise_ready back c.if-kind-eq-FROM_B2.true s.freed s.counts_fit).1
+    (raise_ready s.freed s.counts_fit back (λ new. omega arith)).1
 
 pub returns-then-kind-eq-FROM_B2 : goal.returns-then-kind-eq-FROM_B2
 returns-then-kind-eq-FROM_B2 c h is short long =
