@@ -24,7 +24,7 @@ pub struct Evicted {
 }
 
 // What a request answers: its four words, and the reference bits that the hand cleared.
-#[derive(Drop)]
+#[derive(Clone, Copy)]
 pub struct Served {
     pub kind: u32,
     pub page: u32,
