@@ -5,7 +5,7 @@ use Rattle.sheets.specs.Number.{whole, miss_cost, digits_form}
 use Rattle.sheets.specs.Bid.{policy_line, size_line, cost_line, page_line, in_order, meaning_where}
 use Rattle.sheets.specs.Result.{decimal, milliseconds, result_sheet, refused_sheet}
 use Rattle.sheets.specs.Copy.{copy_of, copied}
-use Rattle.sheets.specs.Examples.{MissCosts, WholeNumbers, Sheets, Copies, LookUps, Results}
+use Rattle.sheets.specs.Examples.{MissCosts, WholeNumbers, Sheets, Copies, LookUps, WrittenNumbers, Results}
 
 pub miss_costs : MissCosts
 unfolding digits_form miss_cost index_of
@@ -80,6 +80,10 @@ looked_up = record {
   no_equals = refl;
   not_closed = refl;
 }
+
+pub written_numbers : WrittenNumbers
+unfolding decimal milliseconds
+written_numbers = record { nothing = refl; nine = refl; ten = refl; most = refl; under_one = refl }
 
 pub results : Results
 unfolding decimal milliseconds result_sheet refused_sheet

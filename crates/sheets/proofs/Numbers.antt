@@ -18,7 +18,7 @@ use Rattle.text.specs.Digits.{zero_digit, is_digit, all_digits, value, value_aft
 use Rattle.sheets.specs.Number.{means, comma}
 use Rattle.sheets.specs.Number.{no_leading_zero, digits_form, before_comma, after_comma}
 use Rattle.sheets.specs.Result.{last_digit, in_digits, decimal, three_digits, milliseconds}
-use Rattle.sheets.specs.Demands.{WholeReadBack, WaitsReadBack, CostReadBack}
+use Rattle.sheets.specs.Demands.{NoLeadingZeros, WholeReadBack, WaitsReadBack, CostReadBack}
 use Rattle.sheets.proofs.Forms.{zero_decides, whole_is, cost_is}
 
 -- DIGIT BY DIGIT
@@ -113,15 +113,20 @@ pub digits_of : (n : ℕ) → n < 2 ^ 64 → Digits n (decimal n)
 unfolding decimal
 digits_of n h = by_digits Digits one_has more_has 19 n (omega arith)
 
--- READ BACK
+-- NO ZERO IN FRONT
 
--- Digits are in the form of a number that has room for as many.
 no-leading-zero : (n : ℕ) (s : List ℕ) → Digits n s → no_leading_zero s ≡ true
 no-leading-zero n s d =
     by_test (λ (b : Bool). b ≡ true) (eqb ∣ s ∣ 1) (λ is. refl) (λ not.
     let above : n ≢ 0 = λ none. eqb-false ∣ s ∣ 1 not (d.single (omega arith)) in
     rw (d.first (omega arith)))
 
+pub no_leading_zeros : NoLeadingZeros
+no_leading_zeros n h = no-leading-zero n (decimal n) (digits_of n h)
+
+-- READ BACK
+
+-- Digits are in the form of a number that has room for as many.
 digits_in_form : (k n : ℕ) (s : List ℕ) → Digits n s → n < 10 ^ suc k → digits_form (suc k) s ≡ true
 digits_in_form k n s d most =
     zero_decides (suc k) s d.some (d.few k most) d.all_digits ∙ no-leading-zero n s d

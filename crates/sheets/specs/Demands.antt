@@ -4,7 +4,7 @@ use Rattle.std.specs.Prelude.{◌≡◌, true, false, List, ℕ, ◌+◌, ◌^�
 use Rattle.terms.specs.Choice.{∣◌∣, all_at_most}
 use Rattle.terms.specs.Policies.{car, cart, known_policy}
 use Rattle.text.specs.Digits.{all_digits, value}
-use Rattle.sheets.specs.Number.{means, digits_form, whole, before_comma, after_comma, miss_cost}
+use Rattle.sheets.specs.Number.{means, no_leading_zero, digits_form, whole, before_comma, after_comma, miss_cost}
 use Rattle.sheets.specs.Bid.{Bid, Meaning, bid, refused, meaning_where, meaning, filed_meaning}
 use Rattle.sheets.specs.Result.{Outcome, decimal, milliseconds, result_sheet}
 use Rattle.sheets.specs.Copy.{blank_policy, with_car, copy, not_copied, copy_of}
@@ -30,6 +30,10 @@ WaitsReadBack = (wait : ℕ) → wait < 2 ^ 64 → WaitReadBack wait
 -- A wait that is small enough to be a miss cost is read back as one. [Numbers]
 abbrev pub CostReadBack : Type 0
 CostReadBack = (cost : ℕ) → cost < 10000000 → miss_cost (milliseconds cost) ≡ means cost
+
+-- What is written has no zero in front: every 64-bit number. [Numbers]
+abbrev pub NoLeadingZeros : Type 0
+NoLeadingZeros = (n : ℕ) → n < 2 ^ 64 → no_leading_zero (decimal n) ≡ true
 
 -- "The result sheet is written into at least 256 lent bytes": it fits, whatever the numbers. [Lengths]
 pub record Fits (r : Outcome) : Type 0 where

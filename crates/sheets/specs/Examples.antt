@@ -8,7 +8,7 @@ use Rattle.sheets.specs.Number.{means, wrong, whole, miss_cost}
 use Rattle.sheets.specs.Lines.{lines}
 use Rattle.sheets.specs.Bid.{Meaning, bid, refused, meaning, filed_meaning}
 use Rattle.sheets.specs.LookUp.{between, nowhere, value_of}
-use Rattle.sheets.specs.Result.{Outcome, result_sheet, refused_sheet}
+use Rattle.sheets.specs.Result.{Outcome, decimal, milliseconds, result_sheet, refused_sheet}
 use Rattle.sheets.specs.Copy.{copy, not_copied, copy_of, copied}
 
 -- "So `1,250` is 1,250 thousandths, `0,000` is good; `1250`, `1.250`, `01,250` and `1,25` are refused."
@@ -114,6 +114,14 @@ clock_outcome = record {
   steps = 6;
   wait = 8750;
 }
+
+-- Numbers are written with no zero in front, but that before the comma.
+pub record WrittenNumbers : Type 0 where
+  pub nothing : decimal 0 ≡ bytes "0"
+  pub nine : decimal 9 ≡ bytes "9"
+  pub ten : decimal 10 ≡ bytes "10"
+  pub most : decimal 18446744073709551615 ≡ bytes "18446744073709551615"
+  pub under_one : milliseconds 42 ≡ bytes "0,042"
 
 pub record Results : Type 0 where
   pub the_worked : result_sheet worked_outcome ≡
