@@ -10,7 +10,7 @@ use Rattle.terms.specs.Choice.{∣◌∣}
 use Rattle.text.specs.Text.{starts}
 use Rattle.sheets.specs.Lines.{under}
 use Rattle.text.proofs.Text.{drop_take, part_length, starts_fits}
-use Rattle.lines.proofs.Cursor.{ClosedAt, MissingAt, ended, not_closed}
+use Rattle.lines.proofs.Cursor.{ClosedAt, MissingAt, ended, not_closed, closed_line, missing_line}
 use Rattle.bid.specs.Answers.{KeyedAt}
 use Rattle.bid.specs.declared.keyed_lines.Keyed.TheVariants.{Value as ValueAt, NoSuchLine}
 
@@ -35,3 +35,6 @@ module _ {s : List ℕ} {at stop : ℕ} (closed : ClosedAt s at stop) where
 pub no_line : {s : List ℕ} {at : ℕ} {key : List ℕ} → MissingAt s at → KeyedAt s at key NoSuchLine
 no_line {key = key} (ended past none) = record { under_key = λ meant. ap (under key meant) none; inside = tt }
 no_line {key = key} (not_closed some none) = record { under_key = λ meant. ap (under key meant) none; inside = tt }
+
+-- By the cursor's answer, and then by the key.
+pub ruleset keyed = (closed_line, missing_line, its_key, other_key, no_line)

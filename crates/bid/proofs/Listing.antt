@@ -1,12 +1,10 @@
 -- The page lines by the answers of one after the other: how a count, and a buffer, grow with each.
-use mathlib.Core.Path.{◌≡◌, refl, sym, ap, subst, ◌∙◌}
+use mathlib.Core.Path.{◌≡◌, refl, sym, ap, ◌∙◌}
 use mathlib.Core.List.{List, [], ◌∷◌, ◌++◌, append-nil, append_assoc}
 use Prim.Native.Nat.{ℕ, suc, ◌+◌, ◌≤◌, ◌<◌}
 use native.Mathlib.Omega.{arith}
 use lib.ListN.{get_or, drop, set, length-append, drop_of_length-le}
 use lib.Seq.{set_at}
-use types.Run.{OneOf, miss}
-use denote.Enum.Declared.{tag_of}
 use Rattle.terms.specs.Choice.{∣◌∣}
 use Rattle.sheets.specs.Lines.{Lines, lines, good, bad}
 use Rattle.sheets.specs.Bid.{Pages, listed, refused_at, number_of_line, onto, page_line, pages_from}
@@ -19,19 +17,14 @@ use Rattle.bid.specs.declared.keyed_lines.Reading.{Reading}
 use Rattle.bid.specs.declared.keyed_lines.Reading.TheVariants.{Good, NoSuchLine, TooManyPages}
 use Rattle.bid.specs.declared.keyed_lines.Reading.TheVariants.{PolicyNotKnown, SizeNotKnown, NotInForm}
 use Rattle.bid.specs.declared.Listed.{Listed}
-use Rattle.bid.specs.declared.Listed.TheVariants as Listed
-use Rattle.bid.specs.contracts.keyed_lines.Reading.{the_type}
 
--- The cases of a line's answer from the second on, which are its refusals.
-abbrev refusals : List ℕ
-refusals = 1 ∷ 2 ∷ 3 ∷ 4 ∷ 5 ∷ []
-
+-- A line's answer is none of a good line.
 abbrev pub Wrong : Reading → Type 0
-Wrong r = OneOf refusals (tag_of the_type r)
+Wrong r = (value next : ℕ) → r ≡ Good value next → ⊥
 
 -- An answer that is not good is a refusal with its number.
 pub refuses : (s : List ℕ) (r : Reading) → Wrong r → told s r ≡ bad (number_of r)
-refuses s (Good value next) h = absurd (miss refusals 0 tt h)
+refuses s (Good value next) h = absurd (h value next refl)
 refuses s NoSuchLine h = refl
 refuses s TooManyPages h = refl
 refuses s PolicyNotKnown h = refl
@@ -46,10 +39,9 @@ pub record PageRead (s : List ℕ) (at n page next : ℕ) : Type 0 where
   pub further : at < next
   pub inside : next ≤ ∣ s ∣
 
-pub page_read : {s : List ℕ} {at : ℕ} (n : ℕ) {page next : ℕ} {r : Reading}
-    → ReadsLine s at (page_line n (lines (drop at s))) r → r ≡ Good page next → PageRead s at n page next
-page_read {s} {at} n {page} {next} read is =
-    let h = subst (ReadsLine s at _) is read in
+pub page_read : {s : List ℕ} {at : ℕ} (n : ℕ) {page next : ℕ}
+    → ReadsLine s at (page_line n (lines (drop at s))) (Good page next) → PageRead s at n page next
+page_read {s} {at} n {page} {next} h =
     let rest = lines (drop next s) in
     let more = next_page n page rest (lines (drop at s)) (sym h.tells) in
     let one_more : suc n ≡ n + 1 = omega arith in
@@ -64,8 +56,8 @@ page_read {s} {at} n {page} {next} read is =
 pub page_wrong : {s : List ℕ} {at : ℕ} (n : ℕ) {r : Reading} → at < ∣ s ∣
     → ReadsLine s at (page_line n (lines (drop at s))) r → Wrong r
     → pages_from n (lines (drop at s)) ≡ refused_at (number_of r) (number_of_line n)
-page_wrong {s} {at} n {r} inside h tag =
-    wrong_page n (number_of r) (lines (drop at s)) (not_at_end s at inside) (sym h.tells ∙ refuses s r tag)
+page_wrong {s} {at} n {r} inside h wrong =
+    wrong_page n (number_of r) (lines (drop at s)) (not_at_end s at inside) (sym h.tells ∙ refuses s r wrong)
 
 -- THE COUNT
 

@@ -18,7 +18,7 @@ use Rattle.sheets.specs.Bid.{Meaning, bid, refused, Pages, listed, refused_at, p
 use Rattle.sheets.specs.Bid.{pages_from, with_pages, after_line, in_order, meaning_where, meaning}
 use Rattle.sheets.specs.Refusals.{answer, on_read}
 use Rattle.sheets.proofs.Bids.{refusal_has_number}
-use Rattle.bid.specs.Answers.{number_of, told, ReadsLine, size_of, PagesFilled, refused_judged, JudgedAs}
+use Rattle.bid.specs.Answers.{number_of, ReadsLine, size_of, PagesFilled, refused_judged, JudgedAs}
 use Rattle.bid.specs.Promises.{bid_of, BidJudged, ReadAs}
 use Rattle.bid.specs.declared.Bid.{Bid}
 use Rattle.bid.specs.declared.Judged.{Judged}
@@ -33,9 +33,10 @@ module _ {s : List ℕ} {at : ℕ} {reading : Lines.Reading} {r : Reading} (n : 
   pub line_decides : ReadsLine s at reading r → Wrong r → after_line n reading follows ≡ refused (number_of r) n
   line_decides h wrong = ap (λ x. after_line n x follows) (sym h.tells ∙ refuses s r wrong)
 
-  pub line_goes_on : {value next : ℕ} → ReadsLine s at reading r → r ≡ Good value next
+module _ {s : List ℕ} {at : ℕ} {reading : Lines.Reading} (n : ℕ) (follows : ℕ → Lines → Meaning) where
+  pub line_goes_on : {value next : ℕ} → ReadsLine s at reading (Good value next)
       → after_line n reading follows ≡ follows value (lines (drop next s))
-  line_goes_on h is = ap (λ x. after_line n x follows) (sym h.tells ∙ ap (told s) is)
+  line_goes_on h = ap (λ x. after_line n x follows) (sym h.tells)
 
 -- THE LINES IN ORDER
 
@@ -52,6 +53,20 @@ pub from_first : (blankIs : Value) (s : List ℕ) → ∣ s ∣ ≤ 16000
     → meaning_where blankIs s ≡ after_line 1 (policy_line blankIs (lines s)) from_second
 unfolding meaning_where in_order
 from_first blankIs s short = rw (le-ltb 16000 ∣ s ∣ short)
+
+-- What the sheet comes to by the lines after the first, after the second and after the third, where those are good.
+module _ (blankIs : Value) {s : List ℕ} (short : ∣ s ∣ ≤ 16000) {policy second : ℕ}
+    (policy_read : ReadsLine s 0 (policy_line blankIs (lines s)) (Good policy second)) where
+  pub by_second : meaning_where blankIs s ≡ from_second policy (lines (drop second s))
+  by_second = from_first blankIs s short ∙ line_goes_on 1 from_second policy_read
+
+  module _ {c third : ℕ} (size_read : ReadsLine s second (size_line (lines (drop second s))) (Good c third)) where
+    pub by_third : meaning_where blankIs s ≡ from_third policy c (lines (drop third s))
+    by_third = by_second ∙ line_goes_on 2 (from_third policy) size_read
+
+    pub by_pages : {cost fourth : ℕ} → ReadsLine s third (cost_line (lines (drop third s))) (Good cost fourth)
+        → meaning_where blankIs s ≡ with_pages policy c cost (pages_from 0 (lines (drop fourth s)))
+    by_pages cost_read = by_third ∙ line_goes_on 3 (from_fourth policy c) cost_read
 
 pub too-long : (blankIs : Value) (s : List ℕ) → 16000 < ∣ s ∣ → meaning_where blankIs s ≡ refused 7 0
 unfolding meaning_where

@@ -11,7 +11,6 @@ use Rattle.bid.specs.Answers.{value_under, KeyedAt, told, Ahead, ReadsLine}
 use Rattle.bid.specs.declared.keyed_lines.Keyed.{Keyed}
 use Rattle.bid.specs.declared.keyed_lines.Keyed.TheVariants.{Value as ValueAt, NoSuchLine}
 use Rattle.bid.specs.declared.keyed_lines.Reading.{Reading}
-use Rattle.bid.specs.declared.keyed_lines.Reading.TheVariants as Reading
 
 pub no_line_read : {s : List ℕ} {at : ℕ} {key : List ℕ} {r : Keyed} → KeyedAt s at key r → (meant : List ℕ → Value)
     → r ≡ NoSuchLine → ReadsLine s at (under key meant (lines (drop at s))) Reading.NoSuchLine
@@ -36,3 +35,6 @@ module _ {s : List ℕ} {at : ℕ} {key : List ℕ} {start end : ℕ} (found : K
   pub wrong_read : {number : ℕ} {r : Reading} → told s r ≡ bad number → Ahead s at r → value ≡ wrong number
       → ReadsLine s at reading r
   wrong_read {number} says ahead so = record { tells = says ∙ value_decides (wrong number) so; ahead = ahead }
+
+-- The three answers, for each line's function.
+pub ruleset readings = (no_line_read, good_read, wrong_read)

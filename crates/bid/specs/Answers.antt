@@ -10,13 +10,10 @@ use Rattle.sheets.specs.Bid as Bid
 use Rattle.sheets.specs.Bid.{named, blank, unknown, bid, Pages, listed, refused_at, pages_from}
 use Rattle.sheets.specs.Refusals.{over}
 use Rattle.bid.specs.declared.keyed_lines.Keyed.{Keyed}
-use Rattle.bid.specs.declared.keyed_lines.Keyed.TheVariants as Keyed
 use Rattle.bid.specs.declared.keyed_lines.PolicyValue.{PolicyValue}
 use Rattle.bid.specs.declared.keyed_lines.PolicyValue.TheVariants as Policy
 use Rattle.bid.specs.declared.keyed_lines.Reading.{Reading}
-use Rattle.bid.specs.declared.keyed_lines.Reading.TheVariants as Reading
 use Rattle.bid.specs.declared.Listed.{Listed}
-use Rattle.bid.specs.declared.Listed.TheVariants as Listed
 use Rattle.bid.specs.declared.Judged.{Judged}
 use Rattle.bid.specs.Promises.{refused_bid, bid_of}
 

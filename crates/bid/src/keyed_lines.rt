@@ -48,6 +48,7 @@ pub fn number_of(reading: Reading) -> u32
 }
 
 // A missing line, one that is not closed and one under another key are the same refusal.
+#[tactic(auto, using(crate::proofs::Keyed::keyed))]
 fn under_key(sheet: &[u8], at: usize, key: &[u8]) -> Keyed
     ensures { KeyedAt sheet.now at key.now result }
 {
@@ -61,6 +62,7 @@ fn under_key(sheet: &[u8], at: usize, key: &[u8]) -> Keyed
     }
 }
 
+#[tactic(auto, using(text::proofs::Text::lengths_differ))]
 fn policy_value(text: &[u8]) -> PolicyValue
     ensures { policy_case result ≡ policy_value text.now }
 {
@@ -86,6 +88,7 @@ fn policy_value(text: &[u8]) -> PolicyValue
 }
 
 // The first line, in a reading where a blank means this policy.
+#[tactic(auto, using(crate::proofs::Readings::readings), unfolding(sheets::specs::Bid::policy_line))]
 pub fn policy_line(sheet: &[u8], at: usize, blank: u32) -> Reading
     ensures { ReadsLine sheet.now at
         (policy_line (means blank) (lines (drop at sheet.now))) result }
@@ -101,6 +104,7 @@ pub fn policy_line(sheet: &[u8], at: usize, blank: u32) -> Reading
     }
 }
 
+#[tactic(auto, using(crate::proofs::Readings::readings), unfolding(sheets::specs::Bid::size_line))]
 pub fn size_line(sheet: &[u8], at: usize) -> Reading
     ensures { ReadsLine sheet.now at (size_line (lines (drop at sheet.now))) result }
 {
@@ -116,6 +120,7 @@ pub fn size_line(sheet: &[u8], at: usize) -> Reading
     Reading::Good(c, end + 1)
 }
 
+#[tactic(auto, using(crate::proofs::Readings::readings), unfolding(sheets::specs::Bid::cost_line))]
 pub fn cost_line(sheet: &[u8], at: usize) -> Reading
     ensures { ReadsLine sheet.now at (cost_line (lines (drop at sheet.now))) result }
 {
@@ -129,6 +134,7 @@ pub fn cost_line(sheet: &[u8], at: usize) -> Reading
 }
 
 // A page line, with so many page lines before it: one too many is refused whatever its value.
+#[tactic(auto, using(crate::proofs::Readings::readings), unfolding(sheets::specs::Bid::page_line))]
 pub fn page_line(sheet: &[u8], at: usize, before: u32) -> Reading
     ensures { ReadsLine sheet.now at (page_line before (lines (drop at sheet.now))) result }
 {
