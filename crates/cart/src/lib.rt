@@ -24,7 +24,7 @@ use entries::{amounts, flags, header, lists, returning, search, targets};
 // The flags of the head of list i, and where it is empty those of a head at which both passes stop.
 fn head_flags(dir: &[u32], i: usize) -> u32
     requires room { Room dir.now }
-    requires i_bound { i ≤ 1 }
+    requires clock { i ≤ 1 }
     ensures { HeadFlags i result dir.now }
 {
     if dir[header::T1_LENGTH + i] == 0 {
@@ -155,7 +155,7 @@ fn second_pass(dir: &mut [u32], kept: counts::Kept) -> counts::Kept
 // The head of list i, T1 or T2, is demoted to its history; its page.
 fn demote_head(dir: &mut [u32], i: usize) -> u32
     requires room { Room dir.old }
-    requires i_bound { (i ≤ 1) × (1 ≤ get_or dir.old (4 + i) 0) }
+    requires clock_has_head { (i ≤ 1) × (1 ≤ get_or dir.old (4 + i) 0) }
     ensures { HeadDemoted i result dir.old dir.new }
 {
     let at = lists::start_of(dir, i);

@@ -41,8 +41,8 @@ loop-f-init c = record { passing = c.requires.passing; underway = begins; of_hea
 pub t2_head_to_t1-requires-clause-room : goal.t2_head_to_t1-requires-clause-room
 t2_head_to_t1-requires-clause-room c = passing_room c.loop-f.invariant.passing
 
-pub t2_head_to_t1-requires-clause-bound : goal.t2_head_to_t1-requires-clause-bound
-t2_head_to_t1-requires-clause-bound c =
+pub t2_head_to_t1-requires-clause-t2_has_head : goal.t2_head_to_t1-requires-clause-t2_has_head
+t2_head_to_t1-requires-clause-t2_has_head c =
     let i = c.loop-f.invariant in
     let p = i.passing in
     let set = bit_is i.of_head c.bit.ensures c.loop-f-test.true in

@@ -58,8 +58,8 @@ place_new-requires-clause-room c =
     let back = c.come_back-kind.ensures (decode c.args.dir.now) (new_long c.args.page) _ _ s.freed.is refl refl refl refl in
     (trimmed_room s.freed (unchanged back c.if-kind-eq-NEW.true) c.trim.ensures).0
 
-pub place_new-requires-clause-dir_in_bounds : goal.place_new-requires-clause-dir_in_bounds
-place_new-requires-clause-dir_in_bounds c =
+pub place_new-requires-clause-room_for_one : goal.place_new-requires-clause-room_for_one
+place_new-requires-clause-room_for_one c =
     let s = c.requires in
     let back = c.come_back-kind.ensures (decode c.args.dir.now) (new_long c.args.page) _ _ s.freed.is refl refl refl refl in
     (trimmed_room s.freed (unchanged back c.if-kind-eq-NEW.true) c.trim.ensures).1
