@@ -6,7 +6,7 @@ use mathlib.Core.List.{List}
 use Prim.Native.Nat.{ℕ, zero, suc, ◌*◌, ◌/◌, ◌%◌, ◌^◌, ◌<◌}
 use native.Mathlib.Omega.{arith}
 use lib.Dec.{eqb}
-use borrow.Author.Tests.{eqb-true, eqb-false, eq-eqb}
+use borrow.Author.Tests.{eqb-true, eqb-false}
 use lib.Bits.{bit_or, or_shr, or_mod, or_comm}
 use lib.Pow.{shl_exact, shl-shr}
 use lib.ListN.{length, get_or, set, length-set}
@@ -58,8 +58,3 @@ module _ (seen : List ℕ) (place word : ℕ) (inside : place / 32 < length seen
           rw (same, get_or-set_same seen (place / 32) word 0 inside) (more (other % 32) (rw (← same) is))
       go other is false e =
           rw (get_or-set_other seen (place / 32) (other / 32) word 0 (eqb-false (other / 32) (place / 32) e)) is
-
--- What a test of the bit at a place answers where the bit is known to be set.
-pub told_set : {place place' : ℕ} (seen : List ℕ) → place ≡ place' → bit_at seen place' ≡ 1
-    → eqb (bit_at seen place) 1 ≡ true
-told_set seen same is = eq-eqb _ 1 (ap (λ (k : ℕ). bit_at seen k) same ∙ is)

@@ -2,12 +2,12 @@
 -- For `stands_behind`, which looks behind one entry, and for the loop of `pages_differ`, which goes to the front.
 use Rattle.std.specs.Prelude.{if◌then◌else◌}
 use mathlib.Core.Path.{◌≡◌, refl, sym, ap, ◌∙◌}
-use mathlib.Core.Bool.{Bool, true, false, true≢false, false≢true}
+use mathlib.Core.Bool.{Bool, true, false, true≢false}
 use mathlib.Core.List.{List, [], ◌∷◌}
 use Prim.Native.Nat.{ℕ, zero, suc, ◌+◌, ◌-◌, ◌*◌, ◌<◌}
 use native.Mathlib.Omega.{arith}
 use lib.Dec.{eqb, ltb}
-use lib.ListN.{length, drop, get_or, length-drop, drop_of_length-le}
+use lib.ListN.{length, drop, get_or, length-drop}
 use borrow.Author.Tests.{eqb-true, ltb-true, ltb-false}
 use Rattle.terms.specs.Choice.{∣◌∣}
 use Rattle.figures.specs.Entry.{Entry, has, differ}
@@ -80,11 +80,6 @@ module _ {w : List ℕ} {a : ℕ} {l : List Entry} {i at : ℕ} (s : EntryAt w a
 pub record SeenFrom (l : List Entry) (i : ℕ) (seen : List ℕ) : Type 0 where
   pub they_differ : differ (drop i l) ≡ true
   pub all_noted : AllNoted (drop i l) seen
-
-pub seen_none : (l : List Entry) {n : ℕ} {seen : List ℕ} → n ≡ length l → SeenFrom l n seen
-seen_none l {n} is =
-    let none : drop n l ≡ [] = drop_of_length-le l {i = n} (omega arith) in
-    record { they_differ = rw none; all_noted = λ page h. absurd (false≢true (rw none at h)) }
 
 -- One more, whose page does not stand behind it and is noted.
 pub seen_more : {w : List ℕ} {a : ℕ} {l : List Entry} {i at : ℕ} {seen seen' : List ℕ} → EntryAt w a l i

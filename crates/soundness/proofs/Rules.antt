@@ -1,36 +1,16 @@
--- A policy's own rules by its number; then soundness by the four answers that is_sound asks for in turn: the sizes, the
--- flags, the zeros, the entries. Each is needed, and together they are all of it.
-use mathlib.Core.Path.{◌≡◌, refl, sym, ap}
+-- Soundness by the four answers that is_sound asks for in turn: the sizes, the flags, the zeros, the entries.
+-- Each is needed, and together they are all of it.
+use mathlib.Core.Path.{◌≡◌}
 use mathlib.Core.Bool.{Bool, true}
 use mathlib.Core.List.{List}
 use Prim.Native.Nat.{ℕ}
-use lib.ListN.{get_or, take, drop}
-use lib.Dec.{eqb}
-use borrow.Author.Tests.{ne_eqb}
+use lib.ListN.{take, drop}
 use Rattle.figures.specs.Words.{most_flags, used, unused}
 use Rattle.terms.specs.Choice.{all_at_most}
-use Rattle.terms.specs.Policies.{car, cart, fifo, clock}
-use Rattle.terms.proofs.Choice.{either}
 use Rattle.terms.proofs.Tests.{reads, agree}
-use Rattle.figures.specs.Classics.{clear_sound}
-use Rattle.figures.specs.Policy.{Policy, policy_of}
 use Rattle.figures.specs.Sound.{flag_words, sound}
 use Rattle.laws.proofs.Encoding.{shaped}
 use Rattle.soundness.specs.Orderly.{Orderly, sizes_fit, WordsHeld, entries_sound}
-
--- The own rules of the policy that word 0 names; FIFO and LRU have the same.
-module _ (w : List ℕ) where
-  abbrev named : ℕ
-  named = get_or w 0 0
-
-  pub own_of : (n : ℕ) → named ≡ n → (policy_of n).own_sound w ≡ (policy_of named).own_sound w
-  own_of n is = ap (λ (m : ℕ). (policy_of m).own_sound w) (sym is)
-
-  pub own_of_others : ¬ (named ≡ car) → ¬ (named ≡ cart) → ¬ (named ≡ clock)
-      → clear_sound w ≡ (policy_of named).own_sound w
-  own_of_others not-car not-cart not-clock =
-      rw (ne_eqb named car not-car, ne_eqb named cart not-cart, ne_eqb named clock not-clock)
-      (either (λ (π : Policy). clear_sound w ≡ π.own_sound w) (eqb named fifo) refl refl)
 
 abbrev pub flags_known : List ℕ → Bool
 flags_known w = all_at_most most_flags (flag_words (take (used w) (drop 8 w)))
