@@ -107,3 +107,6 @@ module _ {w : List ℕ} (r : Ready w) where
         by-policy (λ n. ¬ (n ≡ fifo) → ¬ (n ≡ lru) → Holds ((policy_of n).hit x d) w') (λ a b. shown) (λ a b. shown)
         (λ a b. absurd (a refl)) (λ a b. shown) (λ a b. absurd (b refl))
         d.policy known (λ is. not-fifo (held.policy ∙ is)) (λ is. not-lru (held.policy ∙ is))
+
+-- What the search finds `hit` by.
+pub ruleset hits = (none_in_t2, hit_ignored)

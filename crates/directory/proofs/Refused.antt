@@ -1,7 +1,7 @@
 -- The numbers of a fresh directory and of a check, refusal by refusal in the order of document 01.
 -- And what the check accepts.
 use Rattle.std.specs.Prelude.{if◌then◌else◌}
-use mathlib.Core.Path.{◌≡◌, refl}
+use mathlib.Core.Path.{◌≡◌, refl, sym, ◌∙◌}
 use mathlib.Core.Bool.{Bool, true, false, not}
 use mathlib.Core.List.{List}
 use Prim.Native.Nat.{ℕ, ◌+◌, ◌-◌, ◌*◌, ◌≤◌, ◌<◌}
@@ -18,7 +18,8 @@ use Rattle.figures.specs.Sound.{exact_length, sound}
 use Rattle.figures.specs.Demands.{Sound}
 use Rattle.figures.specs.Refusals.{fresh_number, check_number, on_fresh, on_check}
 use Rattle.directory.specs.Promises.{Freshened, Checked}
-use Rattle.directory.proofs.Serving.{decoded_sound}
+use Rattle.directory.specs.Ready.{Ready}
+use Rattle.directory.proofs.Serving.{ready, decoded_sound}
 
 module _ (w : List ℕ) where
   pub check_short : ∣ w ∣ < 8 → Checked w 3
@@ -52,7 +53,7 @@ module _ (w : List ℕ) where
           check_sound is =
               record { number_is = rw (le-ltb ∣ w ∣ 8 eight, policy, sized, eq-eqb ∣ w ∣ (8 + 4 * size w) exact, is) }
 
--- The check accepts only sound words.
+-- The check accepts only sound words,
 pub accepted_sound : (w : List ℕ) → (on_check w).number ≡ 0 → sound w ≡ true
 unfolding on_check check_number
 accepted_sound w = go (ltb ∣ w ∣ 8) (known_policy (get_or w 0 0)) (known_size (size w)) (exact_length w) (sound w)
@@ -68,6 +69,10 @@ accepted_sound w = go (ltb ∣ w ∣ 8) (known_policy (get_or w 0 0)) (known_siz
     go false true true false sounds is = absurd (omega arith)
     go false true true true false is = absurd (omega arith)
     go false true true true true is = refl
+
+-- and what it accepts may be asked for a page.
+pub accepted_ready : (w : List ℕ) (n : ℕ) → Checked w n → n ≡ 0 → Ready w
+accepted_ready w n checked none = ready w (accepted_sound w (sym checked.number_is ∙ none))
 
 -- What it accepts holds a sound one.
 pub accepted_directory : (w : List ℕ) → check_number w ≡ 0 → Sound (decode w)
@@ -102,3 +107,8 @@ module _ (policy c : ℕ) (w : List ℕ) where
       fresh_accepted exact w' is =
           let test = eq-eqb ∣ w ∣ (8 + 4 * c) exact in
           record { number_is = rw (known, sized, test); words_are = rw (known, sized, test) is }
+
+-- The returns of `check` and of `fresh`, for the search.
+pub ruleset checks = (check_short, check_policy, check_size, check_length, check_unsound, check_sound)
+
+pub ruleset freshens = (fresh_policy, fresh_size, fresh_length, fresh_words, fresh_accepted)

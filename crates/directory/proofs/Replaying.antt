@@ -98,8 +98,8 @@ module _ (w trace answers : List ℕ) where
           rw (s.tally_is, ← s.shown, decode_encode, add-one i, append_assoc)
           (rw (drop-cons trace i 0 more) at m.comes_to)
 
-      pub goes-on : RunMidway w trace answers (i + 1) v' given' t'
-      goes-on = record {
+      pub goes_on : RunMidway w trace answers (i + 1) v' given' t'
+      goes_on = record {
         inside = omega arith;
         ready = s.ready_again;
         within = next_within;

@@ -13,22 +13,22 @@ use Rattle.laws.proofs.Moves.{request_moves_at_most}
 use Rattle.engine.specs.declared.Served.{Served}
 use Rattle.engine.specs.Shown.{Tells}
 use Rattle.entries.specs.Holds.{Holds}
-use Rattle.directory.specs.Promises.{Requested}
+use Rattle.directory.specs.Promises.{Checked, Requested}
 use Rattle.directory.proofs.Refused.{accepted_directory}
 
-module _ (w : List ℕ) (x n : ℕ) (number : n ≡ (on_check w).number) where
+module _ (w : List ℕ) (x n : ℕ) (checked : Checked w n) where
   refused : (n ≡ 0 → ⊥) → on_request w x ≡ refused_request n w
   unfolding on_request on_check
   refused some =
       ap (λ (b : Bool). if b then served_request (request x (decode w)) else refused_request (check_number w) w)
-      (ne_eqb (check_number w) 0 (λ none. some (number ∙ none)))
-      ∙ ap (λ (m : ℕ). refused_request m w) (sym number)
+      (ne_eqb (check_number w) 0 (λ none. some (checked.number_is ∙ none)))
+      ∙ ap (λ (m : ℕ). refused_request m w) (sym checked.number_is)
 
   served : n ≡ 0 → on_request w x ≡ served_request (request x (decode w))
   unfolding on_request on_check
   served none =
       ap (λ (b : Bool). if b then served_request (request x (decode w)) else refused_request (check_number w) w)
-      (eq-eqb (check_number w) 0 (sym number ∙ none))
+      (eq-eqb (check_number w) 0 (sym checked.number_is ∙ none))
 
   pub requested_refused : (n ≡ 0 → ⊥) → Requested w x (record { number = n; kind = 0; page = 0; list = 0; moves = 0 }) w
   requested_refused some =
@@ -48,7 +48,7 @@ module _ (w : List ℕ) (x n : ℕ) (number : n ≡ (on_check w).number) where
   unfolding on_check
   requested_served none s w' t =
       let e = sym (served none) in
-      let d-sound = accepted_directory w (sym number ∙ none) in
+      let d-sound = accepted_directory w (sym checked.number_is ∙ none) in
       record {
         number_is = ap (λ (a : Answered). a.number) e;
         kind_is = t.kind_is ∙ ap (λ (a : Answered). a.kind) e;

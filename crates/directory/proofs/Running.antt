@@ -14,7 +14,7 @@ use Rattle.laws.proofs.Moves.{run_moves_at_most}
 use Rattle.tally.specs.declared.Tally.{Tally}
 use Rattle.tally.specs.Note.{defined}
 use Rattle.directory.specs.declared.Ran.{Ran}
-use Rattle.directory.specs.Promises.{Replayed}
+use Rattle.directory.specs.Promises.{Checked, Replayed}
 use Rattle.directory.specs.Ready.{RunThrough}
 use Rattle.directory.proofs.Refused.{accepted_directory}
 
@@ -43,17 +43,17 @@ module _ (w trace answers : List ℕ) where
         moves_at_most = omega (arith, ap (λ (t : Run.Tally). t.moves) zeros);
       }
 
-  module _ (n : ℕ) (number : n ≡ (on_check w).number) where
+  module _ (n : ℕ) (checked : Checked w n) where
     pub run_refused : (n ≡ 0 → ⊥) → (t : Tally) → defined t ≡ zero_tally → Replayed w trace answers (ran n t) w answers
     unfolding on_check run_number
     run_refused some =
-        let refuses = ne_eqb (check_number w) 0 (λ none. some (number ∙ none)) in
-        replayed_refused n (rw refuses (sym number)) some
+        let refuses = ne_eqb (check_number w) 0 (λ none. some (checked.number_is ∙ none)) in
+        replayed_refused n (rw refuses (sym checked.number_is)) some
 
     module _ (none : n ≡ 0) where
       accepted : check_number w ≡ 0
       unfolding on_check
-      accepted = sym number ∙ none
+      accepted = sym checked.number_is ∙ none
 
       pub run_too_many : 1000 < ∣ trace ∣ → (t : Tally) → defined t ≡ zero_tally
           → Replayed w trace answers (ran 5 t) w answers

@@ -21,12 +21,11 @@ use Rattle.laws.proofs.Kept.{request_keeps}
 use Rattle.engine.specs.declared.Served.{Served as Answered}
 use Rattle.engine.specs.Shown.{Tells}
 use Rattle.entries.specs.Holds.{Holds}
-use Rattle.entries.specs.Stretches.{Room, index}
+use Rattle.entries.specs.Stretches.{index}
 use Rattle.entries.specs.Leaves.{FoundAt}
 use Rattle.entries.proofs.Laid.{Header, header}
 use Rattle.entries.proofs.Reading.{told, cache_held}
 use Rattle.entries.proofs.Indexes.{index_has, index_lacks, has_append}
-use Rattle.entries.proofs.Rooms.{roomy}
 use Rattle.directory.specs.Ready.{still_of, evicting, Ready}
 
 pub ready : (w : List ℕ) → sound w ≡ true → Ready w
@@ -58,9 +57,6 @@ module _ {w : List ℕ} (r : Ready w) where
 
   held : Header d w
   held = header d w words_held
-
-  pub room : Room w
-  room = roomy d words_held (omega (arith, held, r)) (omega (arith, held, r))
 
   -- a request leaves it sound
   pub ready_again : (x : ℕ) (w' : List ℕ) → Holds (request x d).dir w' → Ready w'

@@ -38,6 +38,7 @@ fn clear(s: &mut [u32])
 }
 
 // A fresh directory: refusals 1, 2, 3.
+#[tactic(auto, using(crate::proofs::Refused::freshens))]
 pub fn fresh(policy: u32, c: u32, dir: &mut [u32]) -> u32
     ensures { Freshened policy c dir.old result dir.new }
 {
@@ -57,6 +58,7 @@ pub fn fresh(policy: u32, c: u32, dir: &mut [u32]) -> u32
 }
 
 // The soundness check: under 8 words 3, then 1, 2, length 3, then 4.
+#[tactic(auto, using(crate::proofs::Refused::checks))]
 pub fn check(dir: &[u32]) -> u32
     ensures { Checked dir.now result }
 {
@@ -93,9 +95,10 @@ fn still(kind: u32) -> engine::Served
 
 // A hit on entry k of T1 and T2, by the policy that the directory names: FIFO ignores it, LRU moves the page to T1's
 // tail, all others set its bit.
+#[tactic(auto, using(crate::proofs::Named::hits))]
 fn hit(dir: &mut [u32], k: usize)
     requires ready { Ready dir.old }
-    requires k_bound { k < n_t1 dir.old + n_t2 dir.old }
+    requires in_cache { k < n_t1 dir.old + n_t2 dir.old }
     ensures { HitAs k dir.old dir.new }
 {
     let policy = dir[header::POLICY];
@@ -109,7 +112,7 @@ fn hit(dir: &mut [u32], k: usize)
 // A miss in a full cache, by the policy that the directory names.
 fn miss(dir: &mut [u32], page: u32) -> engine::Served
     requires ready { Ready dir.old }
-    requires dir_value { n_t1 dir.old + n_t2 dir.old ≡ size dir.old }
+    requires full { n_t1 dir.old + n_t2 dir.old ≡ size dir.old }
     ensures { Tells Holds (evicting page (decode dir.old)) result dir.new }
 {
     let policy = dir[header::POLICY];
@@ -173,6 +176,7 @@ pub struct Ran {
 }
 
 // An answer's four words, written from word at on.
+#[tactic(auto, using(crate::proofs::Replaying::four_stores))]
 fn put_answer(answers: &mut [u32], at: usize, served: engine::Served)
     requires { at + 4 ≤ length answers.old }
     ensures { answers.new ≡ take at answers.old
@@ -187,7 +191,7 @@ fn put_answer(answers: &mut [u32], at: usize, served: engine::Served)
 // One request of a run: served, answered from word at on, and counted.
 fn step(dir: &mut [u32], page: u32, answers: &mut [u32], at: usize, t: tally::Tally) -> tally::Tally
     requires ready { Ready dir.old }
-    requires at_in_bounds { (at + 4 ≤ length answers.old) × Small t }
+    requires answer_fits { (at + 4 ≤ length answers.old) × Small t }
     ensures { Stepped page dir.old answers.old at t
         result dir.new answers.new }
 {
@@ -211,7 +215,7 @@ fn no_tally() -> tally::Tally
 // The requests of a trace in order, from a sound directory.
 fn replay(dir: &mut [u32], trace: &[u32], answers: &mut [u32]) -> tally::Tally
     requires ready { Ready dir.old }
-    requires trace_len_bound { (length trace.now ≤ 1000) × (4 * length trace.now ≤ length answers.old) }
+    requires answers_fit { (length trace.now ≤ 1000) × (4 * length trace.now ≤ length answers.old) }
     ensures { RunThrough dir.old trace.now answers.old
         result dir.new answers.new }
 {
