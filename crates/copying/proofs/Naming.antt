@@ -8,9 +8,9 @@ use lib.ListN.{take, drop, length-drop}
 use lib.Seq.{take_all}
 use Rattle.terms.specs.Choice.{∣◌∣}
 use Rattle.text.specs.Text.{bytes}
-use Rattle.text.proofs.Text.{part_length, starts_fits}
+use Rattle.text.proofs.Text.{starts_fits}
 use Rattle.sheets.specs.Copy.{blank_policy, behind_key, with_car}
-use Rattle.result.specs.Put.{PutFits, Put}
+use Rattle.result.specs.Put.{Put}
 use Rattle.result.proofs.Putting.{both, put_as}
 use Rattle.copying.specs.Promises.{RoomForCar}
 
@@ -18,12 +18,9 @@ pub room_for_car : {s out : List ℕ} → blank_policy s ≡ true → ∣ s ∣ 
 room_for_car {s} blank short room =
     record { has_key = starts_fits (bytes "policy=\n") s blank; fits = omega arith }
 
--- What stands behind a place, as the code takes it, and the room for it.
+-- What stands behind a place, as the code takes it.
 abbrev from : ℕ → List ℕ → List ℕ
 from i s = take (∣ s ∣ - i) (drop i s)
-
-pub rest_fits : (i : ℕ) (s : List ℕ) {w : List ℕ} {at : ℕ} → at + (∣ s ∣ - i) ≤ ∣ w ∣ → PutFits w at (from i s)
-rest_fits i s room = record { fits = omega (arith, part_length i ∣ s ∣ s (omega arith)) }
 
 pub car_put : (s : List ℕ) {out out₁ out₂ out₃ : List ℕ} {n₁ n₂ n₃ : ℕ} → Put out 0 (take behind_key s) out₁ n₁
     → Put out₁ n₁ (bytes "car") out₂ n₂ → Put out₂ n₂ (from behind_key s) out₃ n₃ → Put out 0 (with_car s) out₃ n₃
