@@ -48,6 +48,9 @@ module _ (n lba size : ℕ) where
         unfolding counted touches_over page_count touched
         of_pages few = rw (has_bytes, sym last-is, sym first-is, le-ltb most_page last fits, le-ltb 1000 _ few)
 
+-- The outcomes, for the code's tests.
+pub ruleset by_tests = (of_no_bytes, of_page_too_large, of_page_too_many, of_pages)
+
 -- NUMBERS THAT THE CODE DOES NOT TELL APART
 
 module _ (n lba size : ℕ) where

@@ -1,11 +1,9 @@
 -- The trace by the answers of one line after the other: how a count, and a buffer, grow with each.
-use mathlib.Core.Path.{◌≡◌, refl, sym, ap, subst, ◌∙◌}
-use mathlib.Core.List.{List, [], ◌∷◌, ◌++◌, append-nil, append_assoc}
+use mathlib.Core.Path.{◌≡◌, refl, sym, ap, ◌∙◌}
+use mathlib.Core.List.{List, [], ◌++◌, append-nil, append_assoc}
 use Prim.Native.Nat.{ℕ, suc, ◌+◌, ◌≤◌}
 use native.Mathlib.Omega.{arith}
 use lib.ListN.{drop, length-append, drop_of_length-le}
-use types.Run.{OneOf, miss}
-use denote.Enum.Declared.{tag_of}
 use Rattle.terms.specs.Choice.{∣◌∣, numbers_from}
 use Rattle.sheets.specs.Lines.{lines}
 use Rattle.sheets.specs.Refusals.{over}
@@ -15,30 +13,20 @@ use Rattle.result.specs.Put.{Put}
 use Rattle.result.proofs.Putting.{none_put, both, put_over}
 use Rattle.council.specs.Answers.{number_of, LineRead, size_of, PagesFilled}
 use Rattle.council.specs.declared.record_lines.Reading.{Reading}
-use Rattle.council.specs.declared.record_lines.Reading.TheVariants as Reading
 use Rattle.council.specs.declared.Listed.{Listed}
-use Rattle.council.specs.declared.Listed.TheVariants as Listed
-use Rattle.council.specs.contracts.record_lines.Reading.{the_type}
 
--- The cases of a line's answer from the second on, which are its refusals.
-abbrev refusals : List ℕ
-refusals = 1 ∷ 2 ∷ 3 ∷ []
-
+-- A line's answer is none of a good line.
 abbrev pub Wrong : Reading → Type 0
-Wrong r = OneOf refusals (tag_of the_type r)
+Wrong r = (first count next : ℕ) → r ≡ Reading.Pages first count next → ⊥
 
 module _ {s : List ℕ} {at unit n : ℕ} where
   -- A line that is wrong decides.
   pub line_wrong : (r : Reading) → LineRead s at unit n r → Wrong r → (k : ℕ)
       → pages_from unit k n (lines (drop at s)) ≡ refused_at (number_of r) (suc k)
-  line_wrong (Reading.Pages first count next) read wrong k = absurd (miss refusals 0 tt wrong)
+  line_wrong (Reading.Pages first count next) read wrong k = absurd (wrong first count next refl)
   line_wrong Reading.NoRecord read wrong k = read.goes-on k
   line_wrong Reading.PageTooLarge read wrong k = read.goes-on k
   line_wrong Reading.TooManyPages read wrong k = read.goes-on k
-
-  pub line_good : {r : Reading} {first count next : ℕ} → LineRead s at unit n r → r ≡ Reading.Pages first count next
-      → LineRead s at unit n (Reading.Pages first count next)
-  line_good read is = subst (LineRead s at unit n) is read
 
 -- THE COUNT
 

@@ -8,9 +8,7 @@ use Rattle.sheets.specs.Refusals.{over}
 use Rattle.traces.specs.Trace as Trace
 use Rattle.traces.specs.Trace.{yields, wrong, counted, Pages, taken, refused_at, onto, pages_from}
 use Rattle.council.specs.declared.record_lines.Reading.{Reading}
-use Rattle.council.specs.declared.record_lines.Reading.TheVariants as Reading
 use Rattle.council.specs.declared.Listed.{Listed}
-use Rattle.council.specs.declared.Listed.TheVariants as Listed
 
 -- A LINE'S ANSWER
 

@@ -50,6 +50,7 @@ fn last_page(lba: u64, size: u64) -> u64
 }
 
 // A record that counts, with so many pages before it; the next line starts at `next`.
+#[tactic(auto, using(crate::proofs::Counting::by_tests))]
 fn counted(lba: u64, size: u64, before: u32, next: usize) -> Reading
     requires { (lba ≤ beyond) × (size ≤ beyond) × (before ≤ 1000) }
     ensures { Counted lba size before next result }

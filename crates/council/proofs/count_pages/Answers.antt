@@ -1,0 +1,14 @@
+-- A line that is wrong decides; a good one counts its pages; at the end of the trace all are counted.
+use Rattle.std.proofs.Common.{arith}
+use Rattle.council.proofs.Listing.{counts_on}
+use Rattle.council.proofs.count_pages.Goals as goal
+
+pub loop-at-preserved : goal.loop-at-preserved
+loop-at-preserved c =
+    let h = c.in-Pages.ensures in
+    record {
+      inside = h.ahead.1;
+      few_lines = omega (arith, h.ahead.0);
+      few_pages = h.ahead.2;
+      counting = counts_on c.loop-at.invariant.counting h;
+    }

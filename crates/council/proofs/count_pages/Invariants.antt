@@ -1,0 +1,17 @@
+-- The pages counted and those of the lines from here on are the pages of the trace.
+-- Every line has a byte, its line feed, so there are no more lines than bytes.
+use Rattle.std.proofs.Common.{length, ◌-◌, ◌≤◌}
+use Rattle.council.proofs.Listing.{Counting}
+use Rattle.council.proofs.count_pages.Given as goal
+
+abbrev pub invariant-loop-at : goal.invariant-loop-at
+invariant-loop-at l =
+    record {
+      inside : l.at ≤ length l.file;
+      few_lines : l.line ≤ l.at;
+      few_pages : l.count ≤ 1000;
+      counting : Counting l.file l.unit l.at l.line l.count;
+    }
+
+abbrev pub decreases-loop-at : goal.decreases-loop-at
+decreases-loop-at l = length l.file - l.at

@@ -1,0 +1,14 @@
+-- A good line's pages are written behind the others; a good trace has no line that is wrong.
+use Rattle.std.proofs.Common.{arith}
+use Rattle.terms.proofs.Rows.{numbers_length}
+use Rattle.council.proofs.Listing.{writes_on}
+use Rattle.council.proofs.fill.Goals as goal
+
+pub loop-at-preserved : goal.loop-at-preserved
+loop-at-preserved c =
+    let good = c.in-Pages in
+    let put = c.put_pages-written.ensures in
+    record {
+      few = omega (arith, put.next_is, numbers_length good.first good.more, good.ensures.ahead.2);
+      writing = writes_on c.loop-at.invariant.writing good.ensures put;
+    }
