@@ -75,7 +75,7 @@ fn wide(word: u32) -> u64 {
 }
 
 pub fn sum(words: &[u32]) -> u64 {
-    let mut sum = 0;
+    let mut sum = 0u64;
     let mut i = 0;
     while i < words.len() {
         sum = sum.wrapping_add(wide(words[i]));
