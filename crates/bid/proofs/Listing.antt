@@ -1,14 +1,13 @@
 -- The page lines by the answers of one after the other: how a count, and a buffer, grow with each.
 use mathlib.Core.Path.{◌≡◌, refl, sym, ap, ◌∙◌}
-use mathlib.Core.List.{List, [], ◌∷◌, ◌++◌, append-nil, append_assoc}
+use mathlib.Core.List.{List, [], ◌∷◌, ◌++◌, append_assoc}
 use Prim.Native.Nat.{ℕ, suc, ◌+◌, ◌≤◌, ◌<◌}
 use native.Mathlib.Omega.{arith}
-use lib.ListN.{get_or, drop, set, length-append, drop_of_length-le}
+use lib.ListN.{get_or, drop, set, length-append}
 use lib.Seq.{set_at}
 use Rattle.terms.specs.Choice.{∣◌∣}
 use Rattle.sheets.specs.Lines.{Lines, lines, good, bad}
 use Rattle.sheets.specs.Bid.{Pages, listed, refused_at, number_of_line, onto, page_line, pages_from}
-use Rattle.sheets.specs.Refusals.{over}
 use Rattle.sheets.proofs.Pages.{next_page, wrong_page}
 use Rattle.sheets.proofs.Lines.{not_at_end}
 use Rattle.text.proofs.Text.{from_place}
@@ -66,10 +65,6 @@ abbrev pub after : ℕ → Listed → Listed
 after n (Listed.Pages count) = Listed.Pages (n + count)
 after n (Listed.Refused number line) = Listed.Refused number line
 
-pub after_none : (l : Listed) → l ≡ after 0 l
-after_none (Listed.Pages count) = let h : count ≡ 0 + count = omega arith in ap Listed.Pages h
-after_none (Listed.Refused number line) = refl
-
 after_one_more : (n page : ℕ) (rest : Lines) (ps : Pages)
     → after n (size_of (onto n (good page rest) ps)) ≡ after (n + 1) (size_of ps)
 after_one_more n page rest (listed pages) =
@@ -102,18 +97,6 @@ pub record Writing (s : List ℕ) (start : ℕ) (w : List ℕ) (at n : ℕ) (now
   pub now_is : now ≡ written ++ drop n w
   pub others_follow : pages_from 0 (lines (drop start s)) ≡ behind written (pages_from n (lines (drop at s)))
 
-pub nothing_written : (s : List ℕ) (start : ℕ) (w : List ℕ) → Writing s start w start 0 w
-nothing_written s start w = record {
-  written = [];
-  as_many = refl;
-  now_is = refl;
-  others_follow = behind_none (pages_from 0 (lines (drop start s)));
-}
-  where
-    behind_none : (ps : Pages) → ps ≡ behind [] ps
-    behind_none (listed pages) = refl
-    behind_none (refused_at number line) = refl
-
 module _ {s : List ℕ} {start : ℕ} {w : List ℕ} {at n : ℕ} {now : List ℕ} (h : Writing s start w at n now) where
   pub writes_on : {page next : ℕ} → n < ∣ w ∣ → PageRead s at n page next
       → Writing s start w next (n + 1) (set now n page)
@@ -129,13 +112,6 @@ module _ {s : List ℕ} {start : ℕ} {w : List ℕ} {at n : ℕ} {now : List �
         ∙ ap (behind h.written) one.goes-on
         ∙ behind_one_more h.written n page (lines (drop next s)) (pages_from (n + 1) (lines (drop next s)));
   }
-
-  pub all_written : ∣ s ∣ ≤ at → PagesFilled s start w now
-  all_written past pages is =
-      let ended = ap (λ t. behind h.written (pages_from n (lines t))) (drop_of_length-le s {i = at} past) in
-      let same : h.written ++ [] ≡ pages = cc in
-      let all : h.written ≡ pages = sym (append-nil h.written) ∙ same in
-      h.now_is ∙ ap (λ (m : ℕ). h.written ++ drop m w) (sym h.as_many) ∙ ap (λ l. over l w) all
 
   pub never_wrong : {number line : ℕ} → pages_from n (lines (drop at s)) ≡ refused_at number line
       → PagesFilled s start w now

@@ -1,11 +1,8 @@
 -- A good line's page is written behind the others; good page lines have no line that is wrong.
-use Rattle.std.proofs.Common.{◌<◌, length, refl, ◌∙◌, arith}
+use Rattle.std.proofs.Common.{◌<◌, length, ◌∙◌, arith}
 use lib.ListN.{length-set}
-use Rattle.bid.proofs.Listing.{page_read, page_wrong, nothing_written, writes_on, all_written, never_wrong}
+use Rattle.bid.proofs.Listing.{page_read, page_wrong, writes_on, never_wrong}
 use Rattle.bid.proofs.fill.Goals as goal
-
-pub loop-at-init : goal.loop-at-init
-loop-at-init c = record { few = omega arith; as_long = refl; writing = nothing_written _ _ _ }
 
 pub returns-in_default : goal.returns-in_default
 returns-in_default c =
@@ -25,6 +22,3 @@ loop-at-preserved c =
       as_long = length-set v.pages v.count _ ∙ v.invariant.as_long;
       writing = writes_on v.invariant.writing room h;
     }
-
-pub returns : goal.returns
-returns c = all_written c.loop-at.invariant.writing c.loop-at-test.false

@@ -1,4 +1,4 @@
--- A line that is wrong decides; a good one counts its pages; at the end of the trace all are counted.
+-- A good line has a byte, its line feed, and counts its pages.
 use Rattle.std.proofs.Common.{arith}
 use Rattle.council.proofs.Listing.{counts_on}
 use Rattle.council.proofs.count_pages.Goals as goal

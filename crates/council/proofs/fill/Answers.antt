@@ -1,4 +1,4 @@
--- A good line's pages are written behind the others; a good trace has no line that is wrong.
+-- A good line's pages are written behind the others.
 use Rattle.std.proofs.Common.{arith}
 use Rattle.terms.proofs.Rows.{numbers_length}
 use Rattle.council.proofs.Listing.{writes_on}
