@@ -144,6 +144,7 @@ fn serve(dir: &mut [u32], page: u32) -> engine::Served
 }
 
 // One request: refusals as the soundness check.
+#[tactic(auto, using(crate::proofs::Requesting::requests))]
 pub fn request(dir: &mut [u32], page: u32) -> Answer
     ensures { Requested dir.old page result dir.new }
 {
@@ -229,6 +230,7 @@ fn replay(dir: &mut [u32], trace: &[u32], answers: &mut [u32]) -> tally::Tally
 }
 
 // A run: refusals as a request, then 5, 6.
+#[tactic(auto, using(crate::proofs::Running::runs))]
 pub fn run(dir: &mut [u32], trace: &[u32], answers: &mut [u32]) -> Ran
     ensures { Replayed dir.old trace.now answers.old
         result dir.new answers.new }
