@@ -9,13 +9,13 @@ ghost use Rattle.bid.specs.Answers.{KeyedAt, policy_case, ReadsLine, number_of};
 use terms::{limits, policies, refusals};
 
 // A closed line under its key: where its value starts and ends.
-#[derive(Drop)]
+#[derive(Clone, Copy)]
 pub enum Keyed {
     Value(usize, usize),
     NoSuchLine,
 }
 
-#[derive(Drop)]
+#[derive(Clone, Copy)]
 pub enum PolicyValue {
     Named(u32),
     Blank,
@@ -23,7 +23,7 @@ pub enum PolicyValue {
 }
 
 // A line's answer.
-#[derive(Drop)]
+#[derive(Clone, Copy)]
 pub enum Reading {
     Good(u32, usize),
     NoSuchLine,

@@ -15,7 +15,7 @@ use keyed_lines::Reading;
 use terms::{limits, policies, refusals};
 
 // The reader's answer; zeros beside the number and line of a refusal.
-#[derive(Drop)]
+#[derive(Clone, Copy)]
 pub struct Bid {
     pub number: u32,
     pub line: u32,
@@ -26,14 +26,14 @@ pub struct Bid {
 }
 
 // The page lines: how many pages they list, or a refusal's number and line.
-#[derive(Drop)]
+#[derive(Clone, Copy)]
 pub enum Listed {
     Pages(u32),
     Refused(u32, u32),
 }
 
 // A sheet before its pages are written: the answer, and where its page lines start.
-#[derive(Drop)]
+#[derive(Clone, Copy)]
 pub struct Judged {
     pub bid: Bid,
     pub start: usize,

@@ -20,7 +20,7 @@ use engine::kinds;
 use entries::{flags, header, lists, returning, targets};
 
 // What so many looks come to: the page that was evicted, or none yet and the hand so far.
-#[derive(Drop)]
+#[derive(Clone, Copy)]
 enum Looked {
     Stopped(engine::Evicted),
     Again(engine::Hand),

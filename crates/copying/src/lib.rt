@@ -18,7 +18,7 @@ const BEHIND_KEY: usize = 7;
 const NAME_BYTES: usize = 3;
 
 // The number and line of a refusal, zeros where there is none; and how many bytes of out the copy has.
-#[derive(Drop)]
+#[derive(Clone, Copy)]
 pub struct Copied {
     pub number: u32,
     pub line: u32,

@@ -22,7 +22,7 @@ use terms::{limits, refusals};
 const LISTING: usize = 16 * limits::MOST_PAGES;
 
 // The number and line of a refusal, zeros where there is none; and how many pages stand in front of the buffer.
-#[derive(Drop)]
+#[derive(Clone, Copy)]
 pub struct Taken {
     pub number: u32,
     pub line: u32,
@@ -30,7 +30,7 @@ pub struct Taken {
 }
 
 // How many pages a trace has for the unit, or a refusal's number and line.
-#[derive(Drop)]
+#[derive(Clone, Copy)]
 pub enum Listed {
     Pages(u32),
     Refused(u32, u32),

@@ -9,7 +9,7 @@ use records::Record;
 use terms::{limits, refusals};
 
 // The first page, how many there are, and where the next line starts.
-#[derive(Drop)]
+#[derive(Clone, Copy)]
 pub enum Reading {
     Pages(u32, u32, usize),
     NoRecord,

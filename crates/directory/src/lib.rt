@@ -18,7 +18,7 @@ use terms::{limits, policies, refusals};
 
 // A request's answer; zeros beside the number of a refusal. Laid out as C has it, as Ran is: exports hands them to C.
 #[repr(C)]
-#[derive(Drop)]
+#[derive(Clone, Copy)]
 pub struct Answer {
     pub number: u32,
     pub kind: u32,
@@ -170,7 +170,7 @@ pub fn request(dir: &mut [u32], page: u32) -> Answer
 
 // A run's answer; a tally of zeros beside the number of a refusal.
 #[repr(C)]
-#[derive(Drop)]
+#[derive(Clone, Copy)]
 pub struct Ran {
     pub number: u32,
     pub tally: tally::Tally,

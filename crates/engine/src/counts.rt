@@ -9,7 +9,7 @@ pub struct ShortCount(pub u32);
 #[derive(Clone, Copy)]
 pub struct LongCount(pub u32);
 
-#[derive(Drop)]
+#[derive(Clone, Copy)]
 pub struct Kept {
     pub short: ShortCount,
     pub long: LongCount,
@@ -17,7 +17,7 @@ pub struct Kept {
 }
 
 // What the evict part leaves: the evicted page, and n_S and n_L then.
-#[derive(Drop)]
+#[derive(Clone, Copy)]
 pub struct AfterEvict {
     pub out: crate::Evicted,
     pub short: ShortCount,

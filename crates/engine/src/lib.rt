@@ -9,14 +9,14 @@ pub mod counts;
 pub mod kinds;
 
 // Hand moves so far, and the reference bits that they cleared.
-#[derive(Drop)]
+#[derive(Clone, Copy)]
 pub struct Hand {
     pub moves: u32,
     pub cleared: u32,
 }
 
 // The evicted page, the list that it came from, and the hand then.
-#[derive(Drop)]
+#[derive(Clone, Copy)]
 pub struct Evicted {
     pub page: u32,
     pub list: u32,

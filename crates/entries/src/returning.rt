@@ -7,7 +7,7 @@ use crate::{header, lists, targets};
 use engine::kinds;
 
 // What a policy asks for: the dividend for a page found in B1 and in B2, the list whose tail it becomes, and its flags.
-#[derive(Drop)]
+#[derive(Clone, Copy)]
 pub struct Return {
     pub b1: u32,
     pub b2: u32,

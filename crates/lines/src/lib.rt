@@ -11,28 +11,28 @@ ghost use Rattle.lines.specs.Stretch.{Stretch, LookedUp};
 use terms::{limits, refusals};
 
 // The line at a place: closed by the line feed at another, or not there.
-#[derive(Drop)]
+#[derive(Clone, Copy)]
 pub enum Line {
     Closed(usize),
     Missing,
 }
 
 // A sheet and the place up to which it is read.
-#[derive(Drop)]
+#[derive(Clone, Copy)]
 pub struct SheetReader<'a> {
     pub sheet: &'a [u8],
     pub at: usize,
 }
 
 // What the look-up hands back: its number, and the part of the sheet, empty beside a refusal.
-#[derive(Drop)]
+#[derive(Clone, Copy)]
 pub struct Found<'a> {
     pub number: u32,
     pub part: &'a [u8],
 }
 
 // The look-up's number and the place of its part, without the part itself.
-#[derive(Drop)]
+#[derive(Clone, Copy)]
 pub struct Span {
     pub number: u32,
     pub start: usize,

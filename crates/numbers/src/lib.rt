@@ -9,7 +9,7 @@ ghost use Rattle.numbers.specs.Meant.{meant};
 
 use text::digits;
 
-#[derive(Drop)]
+#[derive(Clone, Copy)]
 pub enum Number {
     Means(u32),
     NotInForm,

@@ -11,7 +11,7 @@ use std::io::Read;
 use std::process::ExitCode;
 
 // What came of a call.
-#[derive(Drop)]
+#[derive(Clone, Copy)]
 enum Called {
     Answered,
     End,

@@ -6,21 +6,21 @@ ghost use Rattle.std.specs.Prelude.{◌≡◌, ◌+◌, ◌*◌, ◌≤◌, leng
 use std::io::Read;
 
 // A call's operation, or the input ended before it.
-#[derive(Drop)]
+#[derive(Clone, Copy)]
 pub enum Op {
     Is(u32),
     End,
     Unreadable,
 }
 
-#[derive(Drop)]
+#[derive(Clone, Copy)]
 pub enum Word {
     Is(u32),
     Unreadable,
 }
 
 // What was read of a buffer: whether the input held it whole and it fits, and how many elements it has.
-#[derive(Drop)]
+#[derive(Clone, Copy)]
 pub struct Buffer {
     pub readable: bool,
     pub count: usize,

@@ -10,7 +10,7 @@ use std::io::Read;
 use std::process::ExitCode;
 
 // Spc has the unit whose pages it lists.
-#[derive(Drop)]
+#[derive(Clone, Copy)]
 pub enum Program {
     Score,
     Ledger,

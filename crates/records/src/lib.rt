@@ -13,14 +13,14 @@ use text::digits;
 pub const BEYOND: u64 = 35184372088832;
 
 // A read with its unit, its LBA and its size, each at most BEYOND.
-#[derive(Drop)]
+#[derive(Clone, Copy)]
 pub enum Record {
     Read(u64, u64, u64),
     Write,
     NotInForm,
 }
 
-#[derive(Drop)]
+#[derive(Clone, Copy)]
 pub enum Opcode {
     Reads,
     Writes,
@@ -28,14 +28,14 @@ pub enum Opcode {
 }
 
 // A unit as it is asked for.
-#[derive(Drop)]
+#[derive(Clone, Copy)]
 pub enum Asked {
     Unit(u32),
     NoUnit,
 }
 
 // The field at a place of the line: closed by the comma at another, or the last.
-#[derive(Drop)]
+#[derive(Clone, Copy)]
 pub enum Field {
     Closed(usize),
     Last,

@@ -30,7 +30,7 @@ pub struct Outcome {
 }
 
 // The writer's answer: its number and the count of bytes written.
-#[derive(Drop)]
+#[derive(Clone, Copy)]
 pub struct Written {
     pub number: u32,
     pub count: usize,

@@ -26,7 +26,7 @@ const LEDGER: usize = (limits::MOST_PAGES + 1) * LINE;
 
 // The number and line of the sheet's refusal, zeros where it is accepted; how many bytes stand in front of out; and how
 // many requests were served: their pages and answers stand in front of the lent words.
-#[derive(Drop)]
+#[derive(Clone, Copy)]
 pub struct Scored {
     pub number: u32,
     pub line: u32,

@@ -16,7 +16,7 @@ pub fn load(rt: &impl Runtime, name: &[u8], buffer: &mut [u8]) -> io::Result<usi
     let Ok(mut file) = fs::open(rt, path) else {
         return no_file(rt);
     };
-    let streams::Input::Came(n) = streams::read_from(rt, &mut file, path, buffer) else {
+    let streams::Input::Came(n) = streams::read_from(rt, &mut file, name, buffer) else {
         return Ok(0);
     };
     Ok(n)

@@ -1,5 +1,5 @@
--- The first place of a byte, the length where there is none, as the kit's `index_of` has it; the bytes among which the
--- kit's `find` looks for it; and what a byte cuts off that separates others.
+-- The first place of a byte, the length where there is none, as `index_of` has it; the bytes among which `find` looks
+-- for it; and what a byte cuts off that separates others.
 use Rattle.std.specs.Prelude.{if◌then◌else◌}
 use mathlib.Core.Path.{◌≡◌, refl, ap, ◌∙◌}
 use mathlib.Core.Bool.{Bool, true, false}

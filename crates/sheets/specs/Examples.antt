@@ -121,7 +121,7 @@ pub record WrittenNumbers : Type 0 where
   pub nine : decimal 9 ≡ bytes "9"
   pub ten : decimal 10 ≡ bytes "10"
   pub most : decimal 18446744073709551615 ≡ bytes "18446744073709551615"
-  pub under_one : milliseconds 42 ≡ bytes "0,042"
+  pub under_one : milliseconds 142 ≡ bytes "0,142"
 
 pub record Results : Type 0 where
   pub the_worked : result_sheet worked_outcome ≡

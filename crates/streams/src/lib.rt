@@ -11,7 +11,7 @@ use std::io::{ErrorKind, Read};
 
 // What came of a file, as standard input: so many bytes, fewer than were asked for only where the input ended; or a
 // read failed.
-#[derive(Drop)]
+#[derive(Clone, Copy)]
 pub enum Input {
     Came(usize),
     Failed,
@@ -55,15 +55,17 @@ fn read_once<R: Read>(reader: &mut R, buf: &mut [u8], at: usize) -> Got
     told(got)
 }
 
-fn failed(rt: &impl Eprint, what: &str, error: io::Error) -> Input
+// What failed is said by these words, where they are text.
+fn failed(rt: &impl Eprint, what: &[u8], error: io::Error) -> Input
     ensures { result ≡ Input.Failed }
 {
+    let what = str::from_utf8(what).unwrap_or("reading");
     let _ = eprintln!(rt; "{what}: {error}");
     Input::Failed
 }
 
 // Reads until the file ends or the buffer is full; where a read fails, that is said by these words.
-pub fn read_from<R: Read>(rt: &impl Eprint, reader: &mut R, what: &str, buf: &mut [u8]) -> Input
+pub fn read_from<R: Read>(rt: &impl Eprint, reader: &mut R, what: &[u8], buf: &mut [u8]) -> Input
     ensures { Handed buf.old result buf.new }
 {
     let mut at = 0;
@@ -86,7 +88,7 @@ pub fn read_from<R: Read>(rt: &impl Eprint, reader: &mut R, what: &str, buf: &mu
 pub fn read_input<R: Read>(rt: &impl Eprint, reader: &mut R, buf: &mut [u8]) -> Input
     ensures { Handed buf.old result buf.new }
 {
-    read_from(rt, reader, "reading standard input", buf)
+    read_from(rt, reader, b"reading standard input", buf)
 }
 
 // Writes all of a text to standard output, and answers whether that went well.

@@ -1,4 +1,4 @@
--- The words that rules are written with: a choice by a test, all of some tests, the size of a list, two lists compared,
+-- The words that rules are written with: all of some tests, the size of a list, two lists compared,
 -- numbers in a row.
 -- Nothing here is about caches or sheets.
 use Rattle.std.specs.Prelude.{Bool, true, false, List, [], ◌∷◌, ℕ, zero, suc, length, leb, eqb, if◌then◌else◌}

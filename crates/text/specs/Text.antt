@@ -1,4 +1,4 @@
--- Bytes, as a reader quotes them and looks for a key; where a byte first stands is the kit's `index_of`.
+-- Bytes, as a reader quotes them and looks for a key.
 -- Nothing here is about sheets.
 use Rattle.std.specs.Prelude.{Bool, true, false, List, [], ◌∷◌, ℕ, eqb, if◌then◌else◌}
 use Prim.Native.Char.{code}
