@@ -91,7 +91,7 @@ fn calls(
 }
 
 // Lends memory that is enough for each call; the program's status.
-fn probe(rt: &(impl Print + Eprint), input: &mut impl Read) -> ExitCode {
+pub fn probe(rt: &(impl Print + Eprint), input: &mut impl Read) -> ExitCode {
     let mut dir = [0u32; 4200];
     let mut pages = [0u32; 1100];
     let mut answers = [0u32; 4500];
