@@ -11,6 +11,7 @@ use Rattle.engine.specs.declared.counts.ShortCount.{ShortCount}
 use Rattle.engine.specs.declared.counts.LongCount.{LongCount}
 use Rattle.engine.specs.declared.counts.Kept.{Kept}
 use Rattle.engine.specs.declared.counts.AfterEvict.{AfterEvict}
+use Rattle.engine.specs.declared.kinds.Kind.{Kind}
 use Rattle.engine.specs.Shown.{Counts, EndsWhere, EvictedAs, PlacedAs}
 
 -- The history that trim takes from: B1 where |B1| > q or B2 is empty, else B2.
@@ -83,6 +84,6 @@ module _ {W : Type 0} (Shows : Directory → W → Type 0) where
   Demotes w k w' r = (h : Hand) → ShowsHand h w k → EvictedWithCounts (demotion h) r w'
 
   -- A page placed, whichever hand with these counts is shown.
-  abbrev pub Places : ℕ → ShortCount → LongCount → W → ℕ → W → Type 0
+  abbrev pub Places : ℕ → ShortCount → LongCount → W → Kind → W → Type 0
   Places page n_s n_l w kind w' =
       (h : Hand) → Shows h.dir w → n_s.0 ≡ h.n_s → n_l.0 ≡ h.n_l → PlacedAs Shows cart_policy page h kind w'

@@ -10,6 +10,15 @@ use Rattle.figures.specs.Request.{missed}
 use Rattle.engine.specs.declared.Hand.{Hand as Counted}
 use Rattle.engine.specs.declared.Evicted.{Evicted}
 use Rattle.engine.specs.declared.Served.{Served}
+use Rattle.engine.specs.declared.kinds.Kind.{Kind}
+
+-- The number of the code's kind.
+abbrev pub number_of : Kind → ℕ
+number_of Kind.Hit = 0
+number_of Kind.WithRoom = 1
+number_of Kind.New = 2
+number_of Kind.FromB1 = 3
+number_of Kind.FromB2 = 4
 
 -- What is counted is what hand h has counted.
 pub record Counts (h : Hand.Hand) (k : Counted) : Type 0 where
@@ -17,7 +26,7 @@ pub record Counts (h : Hand.Hand) (k : Counted) : Type 0 where
   pub cleared_is : k.cleared ≡ h.cleared
 
 -- The answer of a miss of this kind, after what the evict part answered.
-abbrev pub served_of : ℕ → Evicted → Served
+abbrev pub served_of : Kind → Evicted → Served
 served_of kind out =
     record { kind = kind; page = out.page; list = out.list; moves = out.hand.moves; cleared = out.hand.cleared }
 
@@ -40,13 +49,13 @@ module _ {W : Type 0} (Shows : Directory → W → Type 0) where
     pub shown : Shows z.dir w
 
   -- The kind is that of a miss after the evict part, which ended at hand h, and the memory shows its directory.
-  pub record PlacedAs (π : Policy) (page : ℕ) (h : Hand.Hand) (kind : ℕ) (w : W) : Type 0 where
-    pub kind_is : kind ≡ (missed π page h).kind
+  pub record PlacedAs (π : Policy) (page : ℕ) (h : Hand.Hand) (kind : Kind) (w : W) : Type 0 where
+    pub kind_is : number_of kind ≡ (missed π page h).kind
     pub shown : Shows (missed π page h).dir w
 
   -- The answer is that of the served request, and the memory shows its directory.
   pub record Tells (s : Request.Served) (r : Served) (w : W) : Type 0 where
-    pub kind_is : r.kind ≡ s.kind
+    pub kind_is : number_of r.kind ≡ s.kind
     pub page_is : r.page ≡ s.page
     pub list_is : r.list ≡ s.list
     pub moves_is : r.moves ≡ s.moves

@@ -1,11 +1,27 @@
-// The kinds of an answer.
+// The kinds of an answer, and their numbers.
 // The numbers are those of figures/specs/Request.
-pub const HIT: u32 = 0;
+ghost use Rattle.std.specs.Prelude.{◌≡◌};
+ghost use Rattle.engine.specs.Shown.{number_of};
 
-pub const WITH_ROOM: u32 = 1;
+#[derive(Clone, Copy, Debug, PartialEq, Eq)]
+pub enum Kind {
+    Hit,
+    WithRoom,
+    New,
+    FromB1,
+    FromB2,
+}
 
-pub const NEW: u32 = 2;
+impl From<Kind> for u32 {
+    ghost from_gives = { λ kind number. number ≡ number_of kind };
 
-pub const FROM_B1: u32 = 3;
-
-pub const FROM_B2: u32 = 4;
+    fn from(kind: Kind) -> u32 {
+        match kind {
+            Kind::Hit => 0,
+            Kind::WithRoom => 1,
+            Kind::New => 2,
+            Kind::FromB1 => 3,
+            Kind::FromB2 => 4,
+        }
+    }
+}

@@ -8,6 +8,8 @@ ghost use Rattle.engine.specs.Shown.{served_of};
 pub mod counts;
 pub mod kinds;
 
+use kinds::Kind;
+
 // Hand moves so far, and the reference bits that they cleared.
 #[derive(Clone, Copy)]
 pub struct Hand {
@@ -23,10 +25,10 @@ pub struct Evicted {
     pub hand: Hand,
 }
 
-// What a request answers: its four words, and the reference bits that the hand cleared.
+// What a request answers: its kind and its other three words, and the reference bits that the hand cleared.
 #[derive(Clone, Copy)]
 pub struct Served {
-    pub kind: u32,
+    pub kind: Kind,
     pub page: u32,
     pub list: u32,
     pub moves: u32,
@@ -34,7 +36,7 @@ pub struct Served {
 }
 
 // The answer of a miss after the evict part.
-pub fn answer_of(kind: u32, out: Evicted) -> Served
+pub fn answer_of(kind: Kind, out: Evicted) -> Served
     ensures { result ≡ served_of kind out }
 {
     Served {

@@ -1,7 +1,9 @@
 -- The policies by number and name: what word 0 of a directory and the value of `policy=` say.
 -- What a policy does is its row in figures/specs/Policy.
-use Rattle.std.specs.Prelude.{Bool, false, ◌||◌, List, [], ◌∷◌, ℕ, eqb, if◌then◌else◌}
+use Rattle.std.specs.Prelude.{◌≡◌, Bool, false, ◌||◌, List, [], ◌∷◌, ℕ, eqb, if◌then◌else◌, Result, MatchResult}
 use Prim.Native.String.{String}
+use Rattle.terms.specs.declared.policies.Policy.{Policy}
+use Rattle.terms.specs.declared.refusals.Refusal.{Refusal}
 
 pub record Named : Type 0 where
   pub number : ℕ
@@ -48,3 +50,17 @@ name_in n (p ∷ l) = if eqb n p.number then p.name else name_in n l
 
 abbrev pub policy_name : ℕ → String
 policy_name n = name_in n policies
+
+-- The number of the code's policy.
+abbrev pub number_of : Policy → ℕ
+number_of Policy.Car = car
+number_of Policy.Cart = cart
+number_of Policy.Fifo = fifo
+number_of Policy.Clock = clock
+number_of Policy.Lru = lru
+
+-- The policy with that number, or refusal 1 where it is no policy's.
+abbrev pub ReadAsPolicy : ℕ → Result Policy Refusal → Type 0
+ReadAsPolicy number r =
+    MatchResult r (λ policy. number_of policy ≡ number)
+    (λ refusal. (refusal ≡ Refusal.PolicyNotKnown) × (known_policy number ≡ false))

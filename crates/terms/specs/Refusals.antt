@@ -1,6 +1,7 @@
 -- The refusal numbers of document 01's table and of 02's requests, by what each says; 0 is that of an accepted call.
 -- When a call is refused, and with what, is said where its outcome is defined.
-use Rattle.std.specs.Prelude.{ℕ}
+use Rattle.std.specs.Prelude.{ℕ, Result, Ok, Err}
+use Rattle.terms.specs.declared.refusals.Refusal.{Refusal}
 
 abbrev pub accepted : ℕ
 accepted = 0
@@ -38,3 +39,22 @@ no_record = 10
 
 abbrev pub page_too_large : ℕ
 page_too_large = 11
+
+-- The number of the code's refusal.
+abbrev pub number_of : Refusal → ℕ
+number_of Refusal.PolicyNotKnown = policy_not_known
+number_of Refusal.SizeNotKnown = size_not_known
+number_of Refusal.WrongLength = wrong_length
+number_of Refusal.NotSound = not_sound
+number_of Refusal.TooManyPages = too_many_pages
+number_of Refusal.BufferTooShort = buffer_too_short
+number_of Refusal.SheetTooLong = sheet_too_long
+number_of Refusal.NoSuchLine = no_such_line
+number_of Refusal.NotInForm = not_in_form
+number_of Refusal.NoRecord = no_record
+number_of Refusal.PageTooLarge = page_too_large
+
+-- The number beside an answer: 0 where the call is accepted.
+abbrev pub number_in : {A : Type 0} → Result A Refusal → ℕ
+number_in (Ok answer) = accepted
+number_in (Err refusal) = number_of refusal

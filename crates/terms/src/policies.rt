@@ -1,30 +1,60 @@
-// The policies' numbers and names, and which numbers are a policy's.
+// The policies, their numbers and names, and which numbers are a policy's.
 // Both are those of specs/Policies.
-ghost use Rattle.std.specs.Prelude.{◌≡◌};
-ghost use Rattle.terms.specs.Policies.{known_policy};
+ghost use Rattle.std.specs.Prelude.{◌≡◌, codes};
+ghost use Rattle.terms.specs.Policies.{number_of, policy_name, ReadAsPolicy};
 
-pub const CAR: u32 = 1;
+use crate::refusals::Refusal;
 
-pub const CART: u32 = 2;
+#[derive(Clone, Copy, Debug, PartialEq, Eq)]
+pub enum Policy {
+    Car,
+    Cart,
+    Fifo,
+    Clock,
+    Lru,
+}
 
-pub const FIFO: u32 = 3;
+impl Policy {
+    pub fn name(self) -> &'static [u8]
+        ensures { result.now ≡ codes (policy_name (number_of self)) }
+    {
+        match self {
+            Policy::Car => b"car",
+            Policy::Cart => b"cart",
+            Policy::Fifo => b"fifo",
+            Policy::Clock => b"clock",
+            Policy::Lru => b"lru",
+        }
+    }
+}
 
-pub const CLOCK: u32 = 4;
+impl From<Policy> for u32 {
+    ghost from_gives = { λ policy number. number ≡ number_of policy };
 
-pub const LRU: u32 = 5;
+    fn from(policy: Policy) -> u32 {
+        match policy {
+            Policy::Car => 1,
+            Policy::Cart => 2,
+            Policy::Fifo => 3,
+            Policy::Clock => 4,
+            Policy::Lru => 5,
+        }
+    }
+}
 
-pub const CAR_NAME: [u8; 3] = *b"car";
+impl TryFrom<u32> for Policy {
+    type Error = Refusal;
 
-pub const CART_NAME: [u8; 4] = *b"cart";
+    ghost try_from_gives = { ReadAsPolicy };
 
-pub const FIFO_NAME: [u8; 4] = *b"fifo";
-
-pub const CLOCK_NAME: [u8; 5] = *b"clock";
-
-pub const LRU_NAME: [u8; 3] = *b"lru";
-
-pub fn known_policy(policy: u32) -> bool
-    ensures { result ≡ known_policy policy }
-{
-    CAR <= policy && policy <= LRU
+    fn try_from(number: u32) -> Result<Policy, Refusal> {
+        match number {
+            1 => Ok(Policy::Car),
+            2 => Ok(Policy::Cart),
+            3 => Ok(Policy::Fifo),
+            4 => Ok(Policy::Clock),
+            5 => Ok(Policy::Lru),
+            _ => Err(Refusal::PolicyNotKnown),
+        }
+    }
 }

@@ -1,25 +1,58 @@
-// The refusal numbers, by what each says; 0 is the number of an accepted call.
-// The numbers are those of specs/Refusals.
-pub const ACCEPTED: u32 = 0;
+// Why a call is refused, by what each refusal says, and its number in document 01's table.
+// The numbers are those of specs/Refusals; 0 is the number of an accepted call.
+ghost use Rattle.std.specs.Prelude.{◌≡◌};
+ghost use Rattle.terms.specs.Refusals.{number_of};
 
-pub const POLICY_NOT_KNOWN: u32 = 1;
+#[derive(Clone, Copy, Debug, PartialEq, Eq)]
+pub enum Refusal {
+    PolicyNotKnown,
+    SizeNotKnown,
+    WrongLength,
+    NotSound,
+    TooManyPages,
+    BufferTooShort,
+    SheetTooLong,
+    NoSuchLine,
+    NotInForm,
+    NoRecord,
+    PageTooLarge,
+}
 
-pub const SIZE_NOT_KNOWN: u32 = 2;
+// The refusal of a sheet or a trace: why, and at which line from 1; 0 where it is of no line.
+#[derive(Clone, Copy, Debug, PartialEq, Eq)]
+pub struct RefusedAt {
+    pub refusal: Refusal,
+    pub line: u32,
+}
 
-pub const WRONG_LENGTH: u32 = 3;
+impl Refusal {
+    pub fn at(self, line: u32) -> RefusedAt
+        ensures refusal { result.refusal ≡ self }
+        ensures line { result.line ≡ line }
+    {
+        RefusedAt {
+            refusal: self,
+            line,
+        }
+    }
+}
 
-pub const NOT_SOUND: u32 = 4;
+impl From<Refusal> for u32 {
+    ghost from_gives = { λ refusal number. number ≡ number_of refusal };
 
-pub const TOO_MANY_PAGES: u32 = 5;
-
-pub const BUFFER_TOO_SHORT: u32 = 6;
-
-pub const SHEET_TOO_LONG: u32 = 7;
-
-pub const NO_SUCH_LINE: u32 = 8;
-
-pub const NOT_IN_FORM: u32 = 9;
-
-pub const NO_RECORD: u32 = 10;
-
-pub const PAGE_TOO_LARGE: u32 = 11;
+    fn from(refusal: Refusal) -> u32 {
+        match refusal {
+            Refusal::PolicyNotKnown => 1,
+            Refusal::SizeNotKnown => 2,
+            Refusal::WrongLength => 3,
+            Refusal::NotSound => 4,
+            Refusal::TooManyPages => 5,
+            Refusal::BufferTooShort => 6,
+            Refusal::SheetTooLong => 7,
+            Refusal::NoSuchLine => 8,
+            Refusal::NotInForm => 9,
+            Refusal::NoRecord => 10,
+            Refusal::PageTooLarge => 11,
+        }
+    }
+}
