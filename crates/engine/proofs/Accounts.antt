@@ -95,11 +95,8 @@ module _ {k : Kept} (d : Directory) where
 pub counts_cached : {d : Directory} {k : Kept} → Accounts d k → k.short.0 + k.long.0 ≡ cached d
 counts_cached {d} a = omega (arith, short_and_long d.t1, short_and_long d.t2)
 
--- A head of T1 that is S counts among the S pages, and a page of T2, which is L, among the L pages.
+-- A head of T1 that is S counts among the S pages.
 pub short_counted : {d : Directory} {k : Kept} {e : Entry} {es : List Entry} → Accounts d k → d.t1 ≡ e ∷ es
     → is_long e.filter ≡ false → 1 ≤ k.short.0
 short_counted {e = e} a front not-long =
     omega (arith, a.shorts, ap (total short) front, short_filter e (is-short e.filter not-long))
-
-pub long_counted : {d : Directory} {k : Kept} → Accounts d k → 1 ≤ ∣ d.t2 ∣ → 1 ≤ k.long.0
-long_counted {d} a some = omega (arith, a.longs, a.t2_long, short_and_long d.t2)

@@ -3,12 +3,10 @@
 use Rattle.std.specs.Prelude.{if◌then◌else◌}
 use mathlib.Core.Path.{◌≡◌, refl}
 use mathlib.Core.Bool.{Bool, true, false, ◌||◌}
-use Prim.Native.Nat.{◌+◌, ◌≤◌}
-use native.Mathlib.Omega.{arith}
+use Prim.Native.Nat.{◌+◌}
 use lib.Dec.{eqb, ltb}
-use borrow.Author.Tests.{ltb-true, eqb-true, eqb-false, eq-eqb, ne_eqb}
+use borrow.Author.Tests.{eq-eqb, ne_eqb}
 use Rattle.terms.specs.Choice.{∣◌∣}
-use Rattle.terms.proofs.Choice.{by_tests}
 use Rattle.figures.specs.Entry.{drop_head}
 use Rattle.figures.specs.Directory.{Directory, Name, B1, B2, list_of, with_list, remembered}
 use Rattle.figures.specs.Cart.{trim}
@@ -32,10 +30,3 @@ module _ (d : Directory) where
   pub trims_not : ¬ (remembered d ≡ d.c + 1) → trim d ≡ d
   unfolding trim
   trims_not fits = rw (ne_eqb (remembered d) (d.c + 1) fits)
-
-  -- Where the histories hold a page, the one that it takes from has a head.
-  pub oldest_has_head : 1 ≤ remembered d → 1 ≤ ∣ list_of oldest d ∣
-  oldest_has_head any =
-      by_tests (λ i. 1 ≤ ∣ list_of i d ∣) (ltb d.q ∣ d.b1 ∣) (eqb ∣ d.b2 ∣ 0)
-      (λ longer. omega (arith, ltb-true d.q ∣ d.b1 ∣ longer)) (λ none. omega (arith, eqb-true ∣ d.b2 ∣ 0 none))
-      (λ shorter some. let differs = eqb-false ∣ d.b2 ∣ 0 some in omega arith)

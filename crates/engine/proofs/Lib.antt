@@ -1,7 +1,7 @@
 -- Laws that serve every engine: how memory shows a directory is a parameter, or the law says which one it is to show.
 --
 -- In order: a page placed after the evict part; the head of a list; CAR's choice and looks, and its trim; CART's
--- accounts, its looks, its two passes, its demotion, and its trim.
+-- accounts, its looks, its two passes, and its trim.
 --
 -- Not here: what the definitions' evict part and trim leave of a directory (laws/proofs); how words show a directory
 -- (entries/proofs); the functions' own proofs (car/proofs, cart/proofs).
@@ -12,5 +12,4 @@ pub mod CarTrim
 pub mod Accounts
 pub mod Looks
 pub mod Passes
-pub mod Demoting
 pub mod CartTrim

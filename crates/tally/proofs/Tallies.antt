@@ -1,18 +1,18 @@
 -- What a run learns of its tally: it is the tally of figures' Run, and n answers make it no larger than n answers can.
--- So a tally of fewer than 1,000 answers is Small, as `counted` asks.
 use Rattle.std.specs.Prelude.{if◌then◌else◌}
 use mathlib.Core.Bool.{Bool, true, false}
 use mathlib.Core.Path.{◌≡◌}
-use Prim.Native.Nat.{ℕ, ◌+◌, ◌*◌, ◌≤◌, ◌<◌}
+use Prim.Native.Nat.{ℕ, ◌+◌, ◌*◌, ◌≤◌}
 use lib.Dec.{eqb, leb}
 use native.Mathlib.Omega.{arith}
 use Rattle.figures.specs.Request as Request
 use Rattle.figures.specs.Run as Run
 use Rattle.engine.specs.declared.Served.{Served}
-use Rattle.tally.specs.Note.{defined, noted_of, Small}
+use Rattle.engine.specs.Shown.{number_of}
+use Rattle.tally.specs.Note.{defined, noted_of}
 use Rattle.tally.specs.declared.Tally.{Tally}
 
-pub noted_defined : (t : Tally) (r : Served) (s : Request.Served) → r.kind ≡ s.kind → r.moves ≡ s.moves
+pub noted_defined : (t : Tally) (r : Served) (s : Request.Served) → number_of r.kind ≡ s.kind → r.moves ≡ s.moves
     → defined (noted_of t r) ≡ Run.noted s (defined t)
 noted_defined t r s kind moves = rw (kind, moves)
 
@@ -23,15 +23,6 @@ pub record Within (n : ℕ) (t : Run.Tally) : Type 0 where
   pub misses : t.misses ≤ n
   pub evictions : t.evictions ≤ n
   pub moves : t.moves ≤ 2049 * n
-
-pub within_small : {n : ℕ} {t : Tally} → Within n (defined t) → n < 1000 → Small t
-within_small w l = record {
-  requests = omega arith;
-  hits = omega arith;
-  misses = omega arith;
-  evictions = omega arith;
-  moves = omega arith;
-}
 
 one_at_most : (b : Bool) → (if b then 1 else 0) ≤ 1
 one_at_most true = omega arith

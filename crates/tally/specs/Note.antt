@@ -3,6 +3,7 @@
 use Rattle.std.specs.Prelude.{◌+◌, ◌≤◌, eqb, leb, if◌then◌else◌}
 use Rattle.figures.specs.Run as Run
 use Rattle.engine.specs.declared.Served.{Served}
+use Rattle.engine.specs.Shown.{number_of}
 use Rattle.tally.specs.declared.Tally.{Tally}
 
 abbrev pub defined : Tally → Run.Tally
@@ -12,9 +13,9 @@ defined t =
 abbrev pub noted_of : Tally → Served → Tally
 noted_of t s = record {
   requests = t.requests + 1;
-  hits = t.hits + (if eqb s.kind 0 then 1 else 0);
-  misses = t.misses + (if eqb s.kind 0 then 0 else 1);
-  evictions = t.evictions + (if leb 2 s.kind then 1 else 0);
+  hits = t.hits + (if eqb (number_of s.kind) 0 then 1 else 0);
+  misses = t.misses + (if eqb (number_of s.kind) 0 then 0 else 1);
+  evictions = t.evictions + (if leb 2 (number_of s.kind) then 1 else 0);
   moves = t.moves + s.moves;
 }
 

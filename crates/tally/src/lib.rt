@@ -5,7 +5,7 @@
 ghost use Rattle.std.specs.Prelude.{◌≡◌, ◌≤◌};
 ghost use Rattle.tally.specs.Note.{noted_of, Small};
 
-use engine::kinds;
+use engine::kinds::Kind;
 
 // Laid out as C has it: exports hands it to C.
 #[repr(C)]
@@ -23,8 +23,11 @@ fn noted(t: Tally, served: engine::Served) -> Tally
     requires { Small t × (served.moves ≤ 2049) }
     ensures { result ≡ noted_of t served }
 {
-    let hit = if served.kind == kinds::HIT { 1 } else { 0 };
-    let evicted = if served.kind < kinds::NEW { 0 } else { 1 };
+    let hit = u32::from(served.kind == Kind::Hit);
+    let evicted = match served.kind {
+        Kind::Hit | Kind::WithRoom => 0,
+        Kind::New | Kind::FromB1 | Kind::FromB2 => 1,
+    };
     Tally {
         requests: t.requests + 1,
         hits: t.hits + hit,
