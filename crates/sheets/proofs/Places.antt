@@ -1,5 +1,5 @@
--- The first place of a byte, the length where there is none, as `index_of` has it; the bytes among which `find` looks
--- for it; and what a byte cuts off that separates others.
+-- The first place of a byte, the length where there is none, as `index_of` has it; the bytes from a place on; and what a
+-- byte cuts off that separates others.
 use Rattle.std.specs.Prelude.{if◌then◌else◌}
 use mathlib.Core.Path.{◌≡◌, refl, ap, ◌∙◌}
 use mathlib.Core.Bool.{Bool, true, false}
@@ -9,9 +9,8 @@ use native.Mathlib.Omega.{arith}
 use lib.ListN.{take, drop, length-drop}
 use lib.Seq.{take_all}
 use lib.Dec.{eqb}
-use Rattle.text.specs.Bytes.{slice, index_after, index_of}
+use Rattle.text.specs.Bytes.{index_after, index_of}
 use Rattle.terms.specs.Choice.{∣◌∣}
-use Rattle.text.proofs.Text.{drop_take}
 
 pub place_at_most : (x : ℕ) (s : List ℕ) → index_of x s ≤ ∣ s ∣
 unfolding index_of
@@ -22,13 +21,9 @@ place_at_most x (b ∷ s) = go (eqb b x) (place_at_most x s)
     go true h = omega arith
     go false h = omega arith
 
--- The bytes that `find` looks through: the part from `at` to `stop`, and all from `at` on.
-pub part_is : (at stop : ℕ) (s : List ℕ) → slice at stop s ≡ take (stop - at) (drop at s)
-unfolding slice
-part_is at stop s = drop_take at stop s
-
-pub bytes_from : (s : List ℕ) (at : ℕ) → slice at ∣ s ∣ s ≡ drop at s
-bytes_from s at = part_is at ∣ s ∣ s ∙ take_all (∣ s ∣ - at) (drop at s) (omega (arith, length-drop at s))
+-- The bytes from a place on, as a slice has them, by how many they are.
+pub bytes_from : (s : List ℕ) (at : ℕ) → take (∣ s ∣ - at) (drop at s) ≡ drop at s
+bytes_from s at = take_all (∣ s ∣ - at) (drop at s) (omega (arith, length-drop at s))
 
 -- CUT AT THE FIRST PLACE
 

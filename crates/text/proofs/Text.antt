@@ -1,8 +1,8 @@
--- Bytes from a place on and up to another; a key in front of bytes, read on from a place, as a loop does; and two texts
--- of one length, which are the same where one starts with the other.
+-- Bytes from a place on and up to another; a key in front of bytes, and two texts that are the same, by the library's
+-- tests.
 use Rattle.std.specs.Prelude.{if◌then◌else◌}
 use mathlib.Core.Path.{◌≡◌, refl, sym, ap, ap₂, ◌∙◌}
-use mathlib.Core.Bool.{Bool, true, false, false≢true}
+use mathlib.Core.Bool.{Bool, true, false, false≢true, ◌&&◌}
 use mathlib.Core.List.{List, [], ◌∷◌, ◌++◌}
 use Prim.Native.Nat.{ℕ, zero, suc, ◌+◌, ◌-◌, ◌≤◌, ◌<◌}
 use native.Mathlib.Nat.{sub-zero, zero-sub, suc-sub-suc}
@@ -11,10 +11,11 @@ use native.Mathlib.Omega.{arith}
 use lib.ListN.{get_or, take, drop, length-drop}
 use lib.Seq.{drop-cons, take-nil, length-take-le}
 use lib.Dec.{eqb}
-use borrow.Author.Tests.{eq-eqb, ne_eqb}
+use lib.Pointwise.{pointwise}
+use borrow.Author.Tests.{eq-eqb, eqb-true}
+use Rattle.std.specs.List.{starts_with}
 use Rattle.terms.specs.Choice.{∣◌∣, same}
-use Rattle.terms.proofs.Choice.{either}
-use Rattle.terms.proofs.Tests.{reads}
+use Rattle.terms.proofs.Tests.{reads, agree}
 use Rattle.text.specs.Text.{starts}
 
 -- PARTS
@@ -34,12 +35,23 @@ drop_take (suc from) (suc to) (b ∷ s) =
 pub part_length : (from to : ℕ) (s : List ℕ) → to ≤ ∣ s ∣ → ∣ take (to - from) (drop from s) ∣ ≡ to - from
 part_length from to s inside = length-take-le (to - from) (drop from s) (omega (arith, length-drop from s))
 
+-- TESTS AS THE LIBRARY HAS THEM
+
+pub both-is : (a b : Bool) → (a && b) ≡ (if a then b else false)
+both-is true b = refl
+both-is false b = refl
+
 -- A KEY IN FRONT
 
-pub short_lacks : (key s : List ℕ) → ∣ s ∣ < ∣ key ∣ → starts key s ≡ false
-short_lacks [] s h = absurd (omega arith)
-short_lacks (k ∷ key) [] h = refl
-short_lacks (k ∷ key) (b ∷ s) h = either (λ t. t ≡ false) (eqb b k) (short_lacks key s (omega arith)) refl
+eqb_turned : (a b : ℕ) → eqb a b ≡ eqb b a
+eqb_turned a b =
+    agree (eqb a b) (eqb b a) (λ is. eq-eqb b a (sym (eqb-true a b is))) (λ is. eq-eqb a b (sym (eqb-true b a is)))
+
+pub starts_with-is : (key s : List ℕ) → starts_with eqb s key ≡ starts key s
+starts_with-is [] s = refl
+starts_with-is (k ∷ key) [] = refl
+starts_with-is (k ∷ key) (b ∷ s) =
+    rw (starts_with-is key s, eqb_turned k b) (both-is (eqb b k) (starts key s))
 
 pub starts_fits : (key s : List ℕ) → starts key s ≡ true → ∣ key ∣ ≤ ∣ s ∣
 starts_fits [] s is = omega arith
@@ -52,27 +64,13 @@ starts_splits [] s is = refl
 starts_splits (k ∷ key) [] is = absurd (false≢true is)
 starts_splits (k ∷ key) (b ∷ s) is = let both = simp reads at is in ap₂ ◌∷◌ both.0 (starts_splits key s both.1)
 
-module _ (key s : List ℕ) (i : ℕ) (in-key : i < ∣ key ∣) (in_bytes : i < ∣ s ∣) where
-  pub key_goes_on : get_or s i 0 ≡ get_or key i 0
-      → starts (drop i key) (drop i s) ≡ starts (drop (i + 1) key) (drop (i + 1) s)
-  key_goes_on is = rw (from_place key i in-key, from_place s i in_bytes, eq-eqb (get_or s i 0) (get_or key i 0) is)
-
-  pub key_differs : (get_or s i 0 ≡ get_or key i 0 → ⊥) → starts (drop i key) (drop i s) ≡ false
-  key_differs isnt = rw (from_place key i in-key, from_place s i in_bytes, ne_eqb (get_or s i 0) (get_or key i 0) isnt)
-
 -- TWO TEXTS
 
-pub same_starts : (s t : List ℕ) → ∣ s ∣ ≡ ∣ t ∣ → same s t ≡ starts t s
-same_starts [] [] h = refl
-same_starts [] (y ∷ t) h = refl
-same_starts (x ∷ s) [] h = absurd (omega arith)
-same_starts (x ∷ s) (y ∷ t) h = ap (λ (b : Bool). if eqb x y then b else false) (same_starts s t (omega arith))
-
-pub lengths_differ : (s t : List ℕ) → (∣ s ∣ ≡ ∣ t ∣ → ⊥) → same s t ≡ false
-lengths_differ [] [] h = absurd (h refl)
-lengths_differ [] (y ∷ t) h = refl
-lengths_differ (x ∷ s) [] h = refl
-lengths_differ (x ∷ s) (y ∷ t) h = either (λ b. b ≡ false) (eqb x y) (lengths_differ s t (λ e. h (ap suc e))) refl
+pub pointwise-is : (s t : List ℕ) → pointwise eqb s t ≡ same s t
+pointwise-is [] [] = refl
+pointwise-is [] (y ∷ t) = refl
+pointwise-is (x ∷ s) [] = refl
+pointwise-is (x ∷ s) (y ∷ t) = rw (pointwise-is s t) (both-is (eqb x y) (same s t))
 
 -- Two texts that compare as the same are one.
 pub same_text : (s t : List ℕ) → same s t ≡ true → s ≡ t

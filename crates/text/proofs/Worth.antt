@@ -1,33 +1,39 @@
--- Digits, read on from a place, as a loop does, and what they come to at least and at most.
-use mathlib.Core.Path.{◌≡◌, ap}
-use mathlib.Core.Bool.{true, false}
+-- Digits by the library's test, and read on from a place, as a loop does; and what they come to at least and at most.
+use Rattle.std.specs.Char.{is_ascii_digit}
+use Rattle.std.specs.List.{list_all, AllPass}
+use Rattle.std.specs.Prelude.{IsTrue, ◌↔◌}
+use Rattle.std.proofs.lemmas.List.Sums.{list_all-from_AllPass, AllPass-from_list_all}
+use mathlib.Core.Path.{◌≡◌, refl, ap, sym, ◌∙◌}
+use mathlib.Core.Bool.{Bool, true}
+use lib.Dec.{leb}
 use mathlib.Core.List.{List, [], ◌∷◌}
 use Prim.Native.Nat.{ℕ, suc, ◌+◌, ◌-◌, ◌*◌, ◌^◌, ◌≤◌, ◌<◌}
 use native.Mathlib.Omega.{arith}
 use native.Mathlib.Nat.{pow-le-pow_right}
 use lib.ListN.{get_or, drop}
 use Rattle.terms.specs.Choice.{∣◌∣}
-use Rattle.terms.proofs.Tests.{reads}
-use Rattle.text.specs.Digits.{zero_digit, is_digit, all_digits, value_after, value}
-use Rattle.text.proofs.Text.{from_place}
+use Rattle.terms.proofs.Tests.{reads, agree}
+use Rattle.text.specs.Digits.{zero_digit, all_digits, value_after, value}
+use Rattle.text.proofs.Text.{from_place, both-is}
+
+-- ALL OF THEM
+
+all_digits-list_all : (s : List ℕ) → all_digits s ≡ list_all is_ascii_digit s
+all_digits-list_all [] = refl
+all_digits-list_all (b ∷ s) =
+    rw (all_digits-list_all s, both-is (is_ascii_digit b), both-is (leb zero_digit b) (leb b (zero_digit + 9)))
+
+pub all_pass : (r : Bool) (s : List ℕ) → (IsTrue r ↔ AllPass is_ascii_digit s) → r ≡ all_digits s
+all_pass r s each =
+    agree r (all_digits s)
+    (λ is. all_digits-list_all s ∙ list_all-from_AllPass is_ascii_digit s (each.0 is))
+    (λ all. each.1 (AllPass-from_list_all is_ascii_digit s (sym (all_digits-list_all s) ∙ all)))
 
 -- A LOOP OVER DIGITS
 
-module _ (s : List ℕ) (i : ℕ) (inside : i < ∣ s ∣) where
-  pub digit_here : is_digit (get_or s i 0) ≡ true → all_digits (drop i s) ≡ all_digits (drop (i + 1) s)
-  digit_here is = rw (from_place s i inside, is)
-
-  pub no_digit_here : is_digit (get_or s i 0) ≡ false → all_digits (drop i s) ≡ false
-  no_digit_here isnt = rw (from_place s i inside, isnt)
-
-  -- What all digits from a place on say of the byte there and of the rest.
-  pub digit_and_rest : all_digits (drop i s) ≡ true
-      → (zero_digit ≤ get_or s i 0) × (get_or s i 0 ≤ zero_digit + 9) × (all_digits (drop (i + 1) s) ≡ true)
-  digit_and_rest all =
-      let said = simp reads at (rw (from_place s i inside) at all) in (omega arith, omega arith, said.1)
-
-  pub value-from : (n : ℕ) → value_after n (drop i s) ≡ value_after (10 * n + (get_or s i 0 - zero_digit)) (drop (i + 1) s)
-  value-from n = ap (value_after n) (from_place s i inside)
+pub value-from : (s : List ℕ) (i : ℕ) → i < ∣ s ∣ → (n : ℕ)
+    → value_after n (drop i s) ≡ value_after (10 * n + (get_or s i 0 - zero_digit)) (drop (i + 1) s)
+value-from s i inside n = ap (value_after n) (from_place s i inside)
 
 -- HOW MUCH DIGITS ARE WORTH
 

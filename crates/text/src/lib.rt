@@ -12,21 +12,11 @@ pub mod scan;
 pub fn starts_with(bytes: &[u8], key: &[u8]) -> bool
     ensures { result ≡ starts key.now bytes.now }
 {
-    if bytes.len() < key.len() {
-        return false;
-    }
-    let mut i = 0;
-    while i < key.len() {
-        if bytes[i] != key[i] {
-            return false;
-        }
-        i += 1;
-    }
-    true
+    bytes.starts_with(key)
 }
 
 pub fn equal(bytes: &[u8], other: &[u8]) -> bool
     ensures { result ≡ same bytes.now other.now }
 {
-    bytes.len() == other.len() && starts_with(bytes, other)
+    bytes == other
 }

@@ -1,7 +1,7 @@
--- Bytes that are fewer than the key's do not start with it.
-use Rattle.std.proofs.Common.{sym}
-use Rattle.text.proofs.Text.{short_lacks}
+-- The library's method looks for the key as `starts` does.
+use Rattle.std.proofs.Common.{◌∙◌}
+use Rattle.text.proofs.Text.{starts_with-is}
 use Rattle.text.proofs.starts_with.Goals as goal
 
-pub returns-then-bytes-key : goal.returns-then-bytes-key
-returns-then-bytes-key c = sym (short_lacks _ _ c.if-bytes-key.true)
+pub returns : goal.returns
+returns c = c.starts_with.ensures.value ∙ starts_with-is c.args.key.now c.args.bytes.now
