@@ -1,31 +1,47 @@
 -- A read into a part is a read at the part's place, and what all reads put stands in front as each put it.
-use mathlib.Core.Path.{◌≡◌, refl, sym, ap, subst, ◌∙◌}
-use mathlib.Core.List.{List, ◌++◌}
-use Prim.Native.Nat.{ℕ, ◌+◌, ◌-◌, ◌≤◌}
-use native.Mathlib.Omega.{arith}
-use lib.ListN.{length, take, drop}
+use Rattle.std.proofs.Common.{◌≡◌, ◌∙◌, refl, sym, ap, subst, List, ◌++◌, ℕ, ◌+◌, ◌-◌, ◌≤◌, add-zero, length, take, drop, Option, Ok, Err, arith}
+use Rattle.std.proofs.lemmas.List.{take-append-le, length-take-le}
+use Rattle.std.proofs.Math.Seq.{take-append-add}
+use Rattle.std.specs.Io.KnownBytes.{Consumes, Keeps}
+use Rattle.std.specs.declared.io.Error.{Error}
+use Rattle.std.proofs.KnownBytes.{Consumes-trans, Consumes-kept}
 use lib.Seq.{take-add}
-use borrow.Rule.Slice.PartMut.{mid_of, put_mid, mid_len, same_len_mid, take_put}
-use Rattle.streams.specs.Reads.{put, Some, GoesOn, ReadAt, Reads, none, more, came, ended, full, Whole, Handed}
-use Rattle.streams.specs.declared.Input.{Input}
-use Rattle.streams.specs.declared.Input.TheVariants.{Came, Failed}
-use Rattle.streams.specs.declared.Got.{Got}
-use Rattle.streams.specs.declared.Got.TheVariants.{End, Interrupted}
+use borrow.Rule.Slice.PartMut.{mid_of, post_of, put_mid, mid_len, same_len_mid, take_put}
+use Rattle.streams.specs.Reads.{Answer, put, GoesOn, ReadAt, Reads, none, more, came, ended, full, Whole}
 
-pub read_at : (w part : List ℕ) (at : ℕ) (r : Got) → at ≤ length w → length part ≡ length (mid_of at (length w - at) w)
-    → Some r → put r ≤ length part → ReadAt w at r (put_mid at (length w - at) w part)
-read_at w part at r within same some few =
+-- What a read puts into the part from a place on stands at that place.
+pub read_at : (w part : List ℕ) (at : ℕ) (r : Answer) → at ≤ length w → length part ≡ length (mid_of at (length w - at) w)
+    → put r ≤ length part → ReadAt w at r (put_mid at (length w - at) w part)
+read_at w part at r within same few =
     let long = same ∙ mid_len at (length w) w (omega arith) in
     record {
-      some = some;
       fits = omega (arith, few, long, within);
       as_long = same_len_mid at (length w - at) w part same;
       before_stays = take_put at (length w - at) w part within;
     }
 
--- What the read came to, by its name.
-pub read_as : {w v : List ℕ} {at : ℕ} {r s : Got} → r ≡ s → ReadAt w at r v → ReadAt w at s v
-read_as {w} {v} {at} is one = subst (λ (r : Got). ReadAt w at r v) is one
+-- What came before, and then what a read put.
+pub take-put_mid : (w part : List ℕ) (at n : ℕ) → at ≤ length w → n ≤ length part
+    → take (at + n) (put_mid at (length w - at) w part) ≡ take at w ++ take n part
+take-put_mid w part at n within few =
+    let rest = part ++ post_of at (length w - at) w in
+    ap (λ (k : ℕ). take (k + n) (take at w ++ rest)) (sym (length-take-le at w within))
+    ∙ take-append-add (take at w) rest n
+    ∙ ap (λ (l : List ℕ). take at w ++ l) (take-append-le n part (post_of at (length w - at) w) few)
+
+-- The reader's next bytes are those that came before, and then those that a read put.
+pub next_more : (a b c : Option (List ℕ)) (w part : List ℕ) (at n : ℕ) → at ≤ length w → n ≤ length part
+    → Consumes a b (take at w) → Consumes b c (take n part)
+    → Consumes a c (take (at + n) (put_mid at (length w - at) w part))
+next_more a b c w part at n within few before one =
+    subst (λ (l : List ℕ). Consumes a c l) (sym (take-put_mid w part at n within few))
+    (Consumes-trans a b c (take at w) (take n part) before one)
+
+-- After a read that put nothing and failed they are those that came before.
+pub next_kept : (a b c : Option (List ℕ)) (w part : List ℕ) (at k : ℕ) → at ≤ length w → Consumes a b (take at w)
+    → Keeps b c → Consumes a c (take at (put_mid at k w part))
+next_kept a b c w part at k within before one =
+    subst (λ (l : List ℕ). Consumes a c l) (sym (take_put at k w part within)) (Consumes-kept a b c (take at w) before one)
 
 in-order : {w v : List ℕ} {n : ℕ} (r : Reads w n v) → take n v ≡ came r
 in-order none = refl
@@ -41,7 +57,7 @@ pub record SoFar (w : List ℕ) (at : ℕ) (v : List ℕ) : Type 0 where
 pub begun : (w : List ℕ) → SoFar w 0 w
 begun w = record { reads = none; fits = omega arith; as_long = refl }
 
-pub one_more : {w v w' : List ℕ} {at : ℕ} → SoFar w at v → (r : Got) → GoesOn r → ReadAt v at r w'
+pub one_more : {w v w' : List ℕ} {at : ℕ} → SoFar w at v → (r : Answer) → GoesOn r → ReadAt v at r w'
     → SoFar w (at + put r) w'
 one_more h r on one = record {
   reads = more h.reads r on one;
@@ -50,10 +66,12 @@ one_more h r on one = record {
 }
 
 -- An interrupted read put nothing.
-pub none_more : {w v w' : List ℕ} {at : ℕ} → SoFar w at v → ReadAt v at Interrupted w' → SoFar w at w'
-none_more {w} {w' = w'} h one = subst (λ (n : ℕ). SoFar w n w') (omega arith) (one_more h Interrupted tt one)
+pub none_more : {w v w' : List ℕ} {at : ℕ} {e : Error} → SoFar w at v → GoesOn (Err e) → ReadAt v at (Err e) w'
+    → SoFar w at w'
+none_more {w} {w' = w'} {at} {e} h on one =
+    subst (λ (n : ℕ). SoFar w n w') (add-zero at) (one_more h (Err e) on one)
 
-pub found_end : {w v w' : List ℕ} {n : ℕ} → SoFar w n v → ReadAt v n End w' → Whole w n w'
+pub found_end : {w v w' : List ℕ} {n : ℕ} → SoFar w n v → ReadAt v n (Ok 0) w' → Whole w n w'
 found_end {v = v} h one = record {
   last = v;
   reads = h.reads;
@@ -70,10 +88,3 @@ filled {v = v} h all = record {
   in-order = in-order h.reads;
   fits = h.fits;
 }
-
-pub handed_nothing : (w v : List ℕ) {r : Input} → r ≡ Failed → length v ≡ length w → Handed w r v
-handed_nothing w v is same = subst (λ (r : Input). Handed w r v) (sym is) same
-
--- What came fits into the buffer.
-pub came_fits : (w v : List ℕ) {r : Input} {n : ℕ} → r ≡ Came n → Handed w r v → n ≤ length v
-came_fits w v is handed = (subst (λ (r : Input). Handed w r v) is handed).fits
