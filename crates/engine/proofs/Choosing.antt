@@ -17,17 +17,10 @@ use Rattle.laws.proofs.Entries.{set_bits}
 use Rattle.laws.proofs.Lists.{length_tail, total_tail}
 use Rattle.engine.specs.declared.Hand.{Hand as Counted}
 use Rattle.engine.specs.declared.Evicted.{Evicted}
-use Rattle.engine.specs.Shown.{Makes}
+use Rattle.engine.specs.Shown.{Makes, moved_once, turned_once}
 use Rattle.engine.specs.Heads.{front_of, head_to}
 use Rattle.engine.specs.Choosing.{chosen, history_of, CarReady, Turning, Chosen, EndsFrom}
 use Rattle.engine.proofs.Heads.{some_front}
-
--- What is counted after a turn, which clears a bit, and after the demotion, which clears none.
-abbrev pub turned_once : Counted → Counted
-turned_once k = record { moves = k.moves + 1; cleared = k.cleared + 1 }
-
-abbrev pub demoted_once : Counted → Counted
-demoted_once k = record { moves = k.moves + 1; cleared = k.cleared }
 
 -- THE DEFINITION'S LOOK, at the chosen clock
 
@@ -130,7 +123,7 @@ module _ {W : Type 0} {Shows : Directory → W → Type 0} {w w₁ : W} {k : Cou
       → ((d : Directory) → Shows d w → (front_of (list_of i d)).bit ≡ false)
       → ((d : Directory) → Shows d w → page ≡ (front_of (list_of i d)).page)
       → Makes Shows (head_to i (history_of i) demoted) w w₁
-      → EndsFrom Shows w k (record { page = page; list = list; hand = demoted_once k }) w₁
+      → EndsFrom Shows w k (record { page = page; list = list; hand = moved_once k }) w₁
   stops_here list_is clear page_is makes h shown counts = record {
     at = demote i (history_of i) (front_of (list_of i h.dir)) (drop_head (list_of i h.dir)) h;
     ends = last (looks_stop i h (choice h.dir shown) (heads h.dir shown) (clear h.dir shown));

@@ -1,6 +1,6 @@
 -- What an engine's answers and its lent memory w say of a hand and of a served request. How memory shows a directory is
 -- a parameter: the list engine's words are those of the directory, another engine has its own picture of it.
-use Rattle.std.specs.Prelude.{◌≡◌, ℕ}
+use Rattle.std.specs.Prelude.{◌≡◌, ℕ, ◌+◌}
 use Rattle.figures.specs.Directory.{Directory}
 use Rattle.figures.specs.Hand as Hand
 use Rattle.figures.specs.Hand.{Look, Ends}
@@ -24,6 +24,13 @@ number_of Kind.FromB2 = 4
 pub record Counts (h : Hand.Hand) (k : Counted) : Type 0 where
   pub moves_is : k.moves ≡ h.moves
   pub cleared_is : k.cleared ≡ h.cleared
+
+-- What is counted after a move that cleared no bit, and after a turn, which cleared one.
+abbrev pub moved_once : Counted → Counted
+moved_once k = record { moves = k.moves + 1; cleared = k.cleared }
+
+abbrev pub turned_once : Counted → Counted
+turned_once k = record { moves = k.moves + 1; cleared = k.cleared + 1 }
 
 -- The answer of a miss of this kind, after what the evict part answered.
 abbrev pub served_of : Kind → Evicted → Served

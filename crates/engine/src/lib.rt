@@ -2,8 +2,8 @@
 // What lent memory shows of a directory, whatever an engine keeps it in, is a parameter of specs/Shown.
 #![tactic(auto)]
 
-ghost use Rattle.std.specs.Prelude.{◌≡◌};
-ghost use Rattle.engine.specs.Shown.{served_of};
+ghost use Rattle.std.specs.Prelude.{◌≡◌, ◌+◌, ◌<◌, ◌^◌};
+ghost use Rattle.engine.specs.Shown.{moved_once, turned_once, served_of};
 
 pub mod counts;
 pub mod kinds;
@@ -11,10 +11,34 @@ pub mod kinds;
 use kinds::Kind;
 
 // Hand moves so far, and the reference bits that they cleared.
-#[derive(Clone, Copy)]
+#[derive(Clone, Copy, Default)]
 pub struct Hand {
     pub moves: u32,
     pub cleared: u32,
+}
+
+impl Hand {
+    // One move more, which cleared no bit.
+    pub fn moved(self) -> Hand
+        requires { self.moves + 1 < 2 ^ 32 }
+        ensures { result ≡ moved_once self }
+    {
+        Hand {
+            moves: self.moves + 1,
+            cleared: self.cleared,
+        }
+    }
+
+    // One move more, which cleared a bit.
+    pub fn turned(self) -> Hand
+        requires { (self.moves + 1 < 2 ^ 32) × (self.cleared + 1 < 2 ^ 32) }
+        ensures { result ≡ turned_once self }
+    {
+        Hand {
+            moves: self.moves + 1,
+            cleared: self.cleared + 1,
+        }
+    }
 }
 
 // The evicted page, the list that it came from, and the hand then.
