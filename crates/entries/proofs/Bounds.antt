@@ -1,26 +1,36 @@
 -- Whether all words of a list are at most m, word by word; and the flags as words of a list.
--- For the loops of `flags_known` and `all_zero`.
+-- For `flags_known` and `all_zero`.
+use Rattle.std.specs.Prelude.{if◌then◌else◌}
+use Rattle.std.specs.List.{list_all, range_with_len}
 use mathlib.Core.Path.{◌≡◌, refl, ap}
-use mathlib.Core.Bool.{true, false}
+use mathlib.Core.Bool.{Bool, true, false, ◌&&◌}
 use mathlib.Core.List.{List, [], ◌∷◌}
 use Prim.Native.Nat.{ℕ, zero, suc, ◌+◌, ◌*◌, ◌≤◌, ◌<◌}
 use native.Mathlib.Numerals.{add-one}
 use native.Mathlib.Omega.{arith}
 use lib.ListN.{length, take, drop, get_or, length-drop}
 use lib.Seq.{drop-cons, drop-length, get_or-take, get_or-drop, length-take-le}
-use borrow.Author.Tests.{le-leb, lt-leb}
+use lib.Dec.{leb}
 use Rattle.terms.specs.Choice.{all_at_most}
 use Rattle.figures.specs.Sound.{flag_words}
 
-module _ (m : ℕ) (w : List ℕ) (i : ℕ) (h : i < length w) where
-  pub at_most_not : m < get_or w i 0 → all_at_most m (drop i w) ≡ false
-  at_most_not over = rw (drop-cons w i 0 h, lt-leb (get_or w i 0) m over)
+both : (b c : Bool) → b && c ≡ (if b then c else false)
+both true c = refl
+both false c = refl
 
-  pub at_most_later : get_or w i 0 ≤ m → all_at_most m (drop i w) ≡ all_at_most m (drop (i + 1) w)
-  at_most_later fits = rw (add-one, drop-cons w i 0 h, le-leb (get_or w i 0) m fits)
+-- A test of each word that asks whether it is at most m.
+pub all_by_test : (m : ℕ) (test : ℕ → Bool) → ((x : ℕ) → test x ≡ leb x m) → (l : List ℕ) → list_all test l ≡ all_at_most m l
+all_by_test m test is [] = refl
+all_by_test m test is (x ∷ l) = rw (is x, all_by_test m test is l) (both (leb x m) (all_at_most m l))
 
-pub at_most_end : (m : ℕ) (w : List ℕ) (i : ℕ) → i ≡ length w → all_at_most m (drop i w) ≡ true
-at_most_end m w i e = rw (e, drop-length)
+-- The same of a test by the word's place, from place i on.
+pub all_by_place : (m : ℕ) (w : List ℕ) (test : ℕ → Bool) → ((i : ℕ) → i < length w → test i ≡ leb (get_or w i 0) m)
+    → (i n : ℕ) → i + n ≡ length w → list_all test (range_with_len i n) ≡ all_at_most m (drop i w)
+all_by_place m w test is i zero e = let at : i ≡ length w = omega arith in rw (at, drop-length)
+all_by_place m w test is i (suc n) e =
+    let inside : i < length w = omega arith in
+    let rest = rw add-one at (all_by_place m w test is (i + 1) n (omega arith)) in
+    rw (drop-cons w i 0 inside, is i inside, add-one, rest) (both (leb (get_or w i 0) m) (all_at_most m (drop (suc i) w)))
 
 flag_word : (w : List ℕ) (i : ℕ) → get_or (flag_words w) i 0 ≡ get_or w (2 * i + 1) 0
 flag_word [] i = refl

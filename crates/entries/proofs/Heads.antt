@@ -16,16 +16,12 @@ use Rattle.engine.proofs.Heads.{some_front}
 use Rattle.entries.specs.Holds.{Holds}
 use Rattle.entries.specs.Flags.{Becomes}
 use Rattle.entries.specs.Leaves.{HeadMoved}
-use Rattle.entries.specs.Stretches.{Room, name_of, start_of}
+use Rattle.entries.specs.Stretches.{name_of, start_of}
 use Rattle.entries.proofs.Laid.{length_of_list}
 use Rattle.entries.proofs.Reading.{Held, EntryAt, list_held, entry_at}
-use Rattle.entries.proofs.Starts.{list_within}
 
 -- List i, which is not empty, starts at word `at`.
 module _ {i at : ℕ} {w : List ℕ} (known : i ≤ 3) (some : 1 ≤ get_or w (4 + i) 0) (start : at ≡ start_of i w) where
-  pub head_inside : Room w → at + 2 ≤ ∣ w ∣
-  head_inside room = omega (arith, room, list_within w i known)
-
   module _ (d : Directory) (is : Holds d w) where
     abbrev list : List Entry
     list = list_of (name_of i) d

@@ -8,7 +8,7 @@ use lib.ListN.{get_or, set, take, drop, replicate, length-append, take-append-dr
 use lib.Seq.{take_at, drop_at, get_or-set_other}
 use Rattle.terms.specs.Choice.{∣◌∣}
 use Rattle.figures.specs.Entry.{Entry}
-use Rattle.figures.specs.Directory.{Directory, list_of, with_p, with_q, with_list, to_tail, cached, remembered, listed}
+use Rattle.figures.specs.Directory.{Directory, list_of, with_p, with_list, to_tail, cached, remembered, listed}
 use Rattle.figures.specs.Words.{words, zeros, encode}
 use Rattle.laws.proofs.Encoding.{words_append}
 use Rattle.entries.specs.Holds.{Holds}
@@ -41,9 +41,6 @@ header d w is =
 -- The words with another target.
 pub with-p : (d : Directory) {w : List ℕ} {p p' : ℕ} → Holds d w → p ≡ p' → Holds (with_p p' d) (set w 2 p)
 with-p d {w} {p} is same = ap (λ (n : ℕ). encode (with_p n d)) (sym same) ∙ ap (λ (l : List ℕ). set l 2 p) is
-
-pub with-q : (d : Directory) {w : List ℕ} {q q' : ℕ} → Holds d w → q ≡ q' → Holds (with_q q' d) (set w 3 q)
-with-q d {w} {q} is same = ap (λ (n : ℕ). encode (with_q n d)) (sym same) ∙ ap (λ (l : List ℕ). set l 3 q) is
 
 pub length_listed : (d : Directory) → ∣ listed d ∣ ≡ cached d + remembered d
 length_listed d = simp length-append (omega arith)

@@ -42,6 +42,3 @@ module _ (w : List ℕ) where
 
   pub starts_within : (i : ℕ) → start_of i w ≤ 8 + used w
   starts_within i = omega (arith, grows_by i 4, start_of_rest (i + 4) (omega arith))
-
-  pub list_within : (i : ℕ) → i ≤ 3 → start_of i w + 2 * get_or w (4 + i) 0 ≤ 8 + used w
-  list_within i h = omega (arith, start_of_next i h, starts_within (i + 1))

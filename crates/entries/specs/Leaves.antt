@@ -1,8 +1,8 @@
 -- What the leaves do to the words: w before, w' after. Each is said of every way to take the words apart, or of every
 -- directory whose words they are, so that a caller names the parts or the directory and has the rest.
-use Rattle.std.specs.Prelude.{◌≡◌, List, ◌∷◌, ◌++◌, ℕ, ◌+◌, ◌*◌, ◌≤◌, get_or}
+use Rattle.std.specs.Prelude.{◌≡◌, true, false, Option, Some, None, List, ◌∷◌, ◌++◌, ℕ, ◌+◌, ◌*◌, ◌≤◌, ◌<◌, get_or}
 use Rattle.terms.specs.Choice.{∣◌∣}
-use Rattle.figures.specs.Entry.{Entry, without, drop_head, total}
+use Rattle.figures.specs.Entry.{Entry, has, without, drop_head, total}
 use Rattle.figures.specs.Directory.{Directory, list_of, with_list, to_tail, hit, cached, remembered}
 use Rattle.figures.specs.Words.{flags, words}
 use Rattle.entries.specs.Holds.{Holds}
@@ -55,13 +55,18 @@ abbrev pub OfEntries : List ℕ → ℕ → ℕ → (List Entry → Type 0) → 
 OfEntries w a n P =
     (before after : List ℕ) (l : List Entry) → w ≡ before ++ (words l ++ after) → ∣ before ∣ ≡ a → ∣ l ∣ ≡ n → P l
 
--- Page x is found at k, where n is nowhere.
-abbrev pub FoundAt : List ℕ → ℕ → ℕ → ℕ → ℕ → Type 0
-FoundAt w a n x k = (k ≤ n) × OfEntries w a n (λ l. k ≡ index x l)
+-- Page x is found at an entry, or nowhere.
+abbrev pub FoundAt : List ℕ → ℕ → ℕ → ℕ → Option ℕ → Type 0
+FoundAt w a n x None = OfEntries w a n (λ l. has x l ≡ false)
+FoundAt w a n x (Some k) = (k < n) × OfEntries w a n (λ l. (has x l ≡ true) × (k ≡ index x l))
 
--- Page x is found at k of list i, where the list's length is nowhere.
-abbrev pub FoundIn : ℕ → ℕ → List ℕ → ℕ → Type 0
-FoundIn i x w k = (k ≤ get_or w (4 + i) 0) × ((d : Directory) → Holds d w → k ≡ index x (list_of (name_of i) d))
+-- The same of list i of the directory that the words hold.
+abbrev pub FoundIn : ℕ → ℕ → List ℕ → Option ℕ → Type 0
+FoundIn i x w None = (d : Directory) → Holds d w → has x (list_of (name_of i) d) ≡ false
+FoundIn i x w (Some k) =
+    (k < get_or w (4 + i) 0)
+    × ((d : Directory) → Holds d w
+    → (has x (list_of (name_of i) d) ≡ true) × (k ≡ index x (list_of (name_of i) d)))
 
 -- So many entries have the flag.
 abbrev pub FlagCounted : List ℕ → ℕ → ℕ → ℕ → ℕ → Type 0

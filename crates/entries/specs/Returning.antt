@@ -5,6 +5,7 @@ use Rattle.figures.specs.Entry.{Entry, has, without}
 use Rattle.figures.specs.Directory.{Directory, Name, B1, B2, with_list, with_p, to_tail}
 use Rattle.figures.specs.Words.{flags, decode, size, n_t1, n_t2, n_b1, n_b2}
 use Rattle.figures.specs.Sound.{Bounds, sound}
+use Rattle.engine.specs.declared.kinds.Kind.{Kind}
 use Rattle.entries.specs.declared.returning.Return.{Return}
 use Rattle.entries.specs.Holds.{Holds}
 use Rattle.entries.specs.Stretches.{Room, name_of}
@@ -34,14 +35,14 @@ module _ (d : Directory) (x : ℕ) (e : Entry) (t : Name) (dividend : ℕ) where
 
 -- Where page x was and what the words w' hold, by the answer's kind. The words w held d; m and n are the dividends for
 -- a page found in B1 and in B2.
-pub data Returned (d : Directory) (x : ℕ) (e : Entry) (t : Name) (m n : ℕ) (w w' : List ℕ) : ℕ → Type 0 where
-  from-b1 : has x d.b1 ≡ true → Holds (returned_from_b1 d x e t m) w' → Returned d x e t m n w w' 3
+pub data Returned (d : Directory) (x : ℕ) (e : Entry) (t : Name) (m n : ℕ) (w w' : List ℕ) : Kind → Type 0 where
+  from-b1 : has x d.b1 ≡ true → Holds (returned_from_b1 d x e t m) w' → Returned d x e t m n w w' Kind.FromB1
   from-b2 : has x d.b1 ≡ false → has x d.b2 ≡ true → Holds (returned_from_b2 d x e t n) w'
-      → Returned d x e t m n w w' 4
-  is_new : has x d.b1 ≡ false → has x d.b2 ≡ false → w' ≡ w → Returned d x e t m n w w' 2
+      → Returned d x e t m n w w' Kind.FromB2
+  is_new : has x d.b1 ≡ false → has x d.b2 ≡ false → w' ≡ w → Returned d x e t m n w w' Kind.New
 
 -- The same of every directory that the words w hold, and of every entry of the page that has the flags asked for.
-abbrev pub Returns : ℕ → Return → List ℕ → ℕ → List ℕ → Type 0
+abbrev pub Returns : ℕ → Return → List ℕ → Kind → List ℕ → Type 0
 Returns page to w kind w' =
     (d : Directory) (e : Entry) (m n : ℕ) → Holds d w → e.page ≡ page → to.flags ≡ flags e → to.b1 ≡ m → to.b2 ≡ n
     → Returned d page e (name_of to.tail) m n w w' kind

@@ -1,5 +1,6 @@
 // The flags word of an entry: what it says, and the word with a flag set or taken away.
 // No flags word is taken apart or put together elsewhere. The numbers are those of figures/specs/Words.
+// They stay numbers: a word of the directory is one (document 01).
 ghost use Rattle.std.specs.Prelude.{◌≤◌};
 ghost use Rattle.figures.specs.Entry.{marked, cleared, made_long, demoted, is_long};
 ghost use Rattle.entries.specs.Flags.{Says, Becomes, of_flag};

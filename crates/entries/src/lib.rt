@@ -2,7 +2,6 @@
 // Nothing is copied out: a move turns one stretch of words in place and holds one entry.
 #![tactic(auto)]
 
-pub mod amounts;
 pub mod flags;
 pub mod header;
 pub mod lists;

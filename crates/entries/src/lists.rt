@@ -1,5 +1,8 @@
 // The four lists in the words: a head to a tail, a page to a tail, a page back from a history, a head dropped.
 // Lists are named by number in their order; list i + 2 is the history of list i.
+//
+// They stay numbers: list i has its length in word T1_LENGTH + i, and the contracts and docs/CONTRACTS.md speak of list i.
+// Room stays a clause of each function: docs/CONTRACTS.md, "Moving an entry", names them, so they may ask no more.
 ghost use Rattle.std.specs.Prelude.{◌≡◌, ◌+◌, ◌≤◌, ◌<◌, length, get_or};
 ghost use Rattle.figures.specs.Entry.{cleared};
 ghost use Rattle.figures.specs.Directory.{T1 as FirstClock, T2 as SecondClock, place_new};
@@ -22,21 +25,15 @@ pub const B2: usize = 3;
 // Where a list after the last would start.
 pub const END: usize = 4;
 
-pub fn wide(x: u32) -> usize
-    ensures { result ≡ x }
-{
-    x as usize
-}
-
 // The word at which list i starts; list 4 would start after the last entry.
 pub fn start_of(dir: &[u32], i: usize) -> usize
     requires { Room dir.now }
     ensures { result ≡ start_of i dir.now }
 {
-    let n1 = wide(dir[header::T1_LENGTH]);
-    let n2 = wide(dir[header::T2_LENGTH]);
-    let k1 = wide(dir[header::B1_LENGTH]);
-    let k2 = wide(dir[header::B2_LENGTH]);
+    let n1 = dir[header::T1_LENGTH] as usize;
+    let n2 = dir[header::T2_LENGTH] as usize;
+    let k1 = dir[header::B1_LENGTH] as usize;
+    let k2 = dir[header::B2_LENGTH] as usize;
     match i {
         T1 => header::ENTRIES,
         T2 => header::ENTRIES + 2 * n1,
@@ -46,14 +43,14 @@ pub fn start_of(dir: &[u32], i: usize) -> usize
     }
 }
 
-// The place of page in list i, or the list's length.
-pub fn find(dir: &[u32], i: usize, page: u32) -> usize
+// The place of page in list i.
+pub fn find(dir: &[u32], i: usize, page: u32) -> Option<usize>
     requires room { Room dir.now }
     requires i_bound { i ≤ 3 }
     ensures { FoundIn i page dir.now result }
 {
     let a = start_of(dir, i);
-    let n = wide(dir[header::T1_LENGTH + i]);
+    let n = dir[header::T1_LENGTH + i] as usize;
     search::find(dir, a, n, page)
 }
 
@@ -82,7 +79,7 @@ pub fn t2_head_to_t1(dir: &mut [u32])
 {
     let n1 = dir[header::T1_LENGTH];
     let n2 = dir[header::T2_LENGTH];
-    let at = header::ENTRIES + 2 * wide(n1) + 1;
+    let at = header::ENTRIES + 2 * n1 as usize + 1;
     dir[at] = flags::cleared(dir[at]);
     dir[header::T1_LENGTH] = n1 + 1;
     dir[header::T2_LENGTH] = n2 - 1;

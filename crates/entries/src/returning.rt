@@ -4,7 +4,7 @@ ghost use Rattle.std.specs.Prelude.{◌≤◌};
 ghost use Rattle.entries.specs.Returning.{Freed, Returns};
 
 use crate::{header, lists, targets};
-use engine::kinds;
+use engine::kinds::Kind;
 
 // What a policy asks for: the dividend for a page found in B1 and in B2, the list whose tail it becomes, and its flags.
 #[derive(Clone, Copy)]
@@ -16,22 +16,20 @@ pub struct Return {
 }
 
 // The page from B1 or B2, and the answer's kind. A page in neither history is new, and nothing changes.
-pub fn come_back(dir: &mut [u32], page: u32, to: Return) -> u32
+pub fn come_back(dir: &mut [u32], page: u32, to: Return) -> Kind
     requires freed { Freed dir.old }
     requires return_fits { (to.tail ≤ 1) × (to.b1 ≤ 2048) × (to.b2 ≤ 2048) }
     ensures { Returns page to dir.old result dir.new }
 {
-    let k = lists::find(dir, lists::B1, page);
-    if k < lists::wide(dir[header::B1_LENGTH]) {
+    if let Some(k) = lists::find(dir, lists::B1, page) {
         dir[header::P] = targets::raised(dir, to.b1);
         lists::come_back(dir, lists::B1, k, to.tail, page, to.flags);
-        return kinds::FROM_B1;
+        return Kind::FromB1;
     }
-    let k = lists::find(dir, lists::B2, page);
-    if k < lists::wide(dir[header::B2_LENGTH]) {
+    if let Some(k) = lists::find(dir, lists::B2, page) {
         dir[header::P] = targets::lowered(dir, to.b2);
         lists::come_back(dir, lists::B2, k, to.tail, page, to.flags);
-        return kinds::FROM_B2;
+        return Kind::FromB2;
     }
-    kinds::NEW
+    Kind::New
 }

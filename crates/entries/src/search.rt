@@ -8,19 +8,12 @@ ghost use Rattle.entries.specs.Leaves.{FoundAt, FlagCounted};
 
 use crate::{flags, header};
 
-// The place of the first of the n entries from word a on that is for page, or n.
-pub fn find(dir: &[u32], a: usize, n: usize, page: u32) -> usize
+// The place of the first of the n entries from word a on that is for page.
+pub fn find(dir: &[u32], a: usize, n: usize, page: u32) -> Option<usize>
     requires { (a + 2 * n ≤ length dir.now) × (length dir.now ≤ 4104) }
     ensures { FoundAt dir.now a n page result }
 {
-    let mut i = 0;
-    while i < n {
-        if dir[a + 2 * i] == page {
-            return i;
-        }
-        i += 1;
-    }
-    n
+    (0..n).find(|&i| dir[a + 2 * i] == page)
 }
 
 // How many of the n entries from word a on have a flag.
@@ -29,10 +22,8 @@ pub fn count(dir: &[u32], a: usize, n: usize, flag: u32) -> u32
     ensures { FlagCounted dir.now a n flag result }
 {
     let mut sum = 0u32;
-    let mut i = 0;
-    while i < n {
+    for i in 0..n {
         sum += flags::counts(dir[a + 2 * i + 1], flag);
-        i += 1;
     }
     sum
 }
@@ -42,14 +33,7 @@ pub fn flags_known(dir: &[u32], n: usize) -> bool
     requires { (8 + 2 * n ≤ length dir.now) × (length dir.now ≤ 4104) }
     ensures { result ≡ all_at_most most_flags (flag_words (take (2 * n) (drop 8 dir.now))) }
 {
-    let mut i = 0;
-    while i < n {
-        if flags::MOST < dir[header::ENTRIES + 2 * i + 1] {
-            return false;
-        }
-        i += 1;
-    }
-    true
+    (0..n).all(|i| dir[header::ENTRIES + 2 * i + 1] <= flags::MOST)
 }
 
 // Whether the words from a on are zero.
@@ -57,12 +41,5 @@ pub fn all_zero(dir: &[u32], a: usize) -> bool
     requires { a ≤ length dir.now }
     ensures { result ≡ all_at_most 0 (drop a dir.now) }
 {
-    let mut i = a;
-    while i < dir.len() {
-        if dir[i] != 0 {
-            return false;
-        }
-        i += 1;
-    }
-    true
+    dir[a..].iter().all(|&word| word == 0)
 }

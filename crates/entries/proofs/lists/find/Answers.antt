@@ -1,8 +1,8 @@
 -- What is searched is list i, from its start on and for its length.
-use Rattle.std.proofs.Common.{arith}
-use Rattle.entries.proofs.Searching.{found_index}
+use Rattle.std.proofs.Common.{arith, refl}
+use Rattle.entries.proofs.Searching.{found_in}
 use Rattle.entries.proofs.lists.find.Goals as goal
 
 pub returns : goal.returns
 returns c =
-    (omega arith, λ d is. found_index d is c.args.i (omega arith) c.args.page c.find.ensures c.start_of-a.ensures c.wide-n.ensures)
+    found_in c.args.dir.now c.args.i (omega arith) c.args.page c.start_of-a.ensures refl c.find.result c.find.ensures

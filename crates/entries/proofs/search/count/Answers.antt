@@ -8,7 +8,6 @@ pub loop-i-preserved : goal.loop-i-preserved
 loop-i-preserved c =
     let v = c.loop-i in
     record {
-      within = omega arith;
       small = omega arith;
       counted = λ all h many.
           let e = entry_at h v.i (omega arith) in

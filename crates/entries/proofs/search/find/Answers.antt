@@ -1,31 +1,15 @@
--- Entry i is the page's, so that the index behind i is 0; or it is another's, and the index is one more.
-use Rattle.std.proofs.Common.{arith}
-use Rattle.entries.proofs.Reading.{Held, held, entry_at}
-use Rattle.entries.proofs.Searching.{index_here, index_later}
+-- The first place that `find` stops at is that of the first entry for the page.
+use Rattle.std.proofs.Common.{rules, ◌≡◌, ◌+◌, ◌*◌, ℕ}
+use Rattle.std.proofs.lemmas.Iterator.{first_from_Range}
+use borrow.Author.Tests.{tests}
+use lib.ListN.{get_or}
+use Rattle.entries.proofs.Searching.{found_by}
 use Rattle.entries.proofs.search.find.Goals as goal
 
-pub returns-then-dir-a : goal.returns-then-dir-a
-returns-then-dir-a c =
-    let v = c.loop-i in (
-      omega arith,
-      λ before after all is at many.
-          let h : Held c.args.dir.now c.args.a all = held before after is at in
-          omega (
-            arith,
-            v.invariant.place all h many,
-            index_here (entry_at h v.i (omega arith)) c.args.page c.if-dir-a.true,
-          ),
-    )
-
-pub loop-i-preserved : goal.loop-i-preserved
-loop-i-preserved c =
-    let v = c.loop-i in
-    record {
-      within = omega arith;
-      place = λ all h many.
-          omega (
-            arith,
-            v.invariant.place all h many,
-            index_later (entry_at h v.i (omega arith)) c.args.page c.if-dir-a.false,
-          );
-    }
+pub returns : goal.returns
+returns c =
+    let w = c.args.dir.now in
+    let For : ℕ → Type 0 = λ i. get_or w (c.args.a + 2 * i) 0 ≡ c.args.page in
+    found_by w c.args.a c.args.n c.args.page c.find.result
+    (first_from_Range _ _ _ c.find.result For (λ i. For i → ⊥) c.find.ensures.ran
+    (λ i q called. search (rules, tests)) (λ i q called. search (rules, tests)))
