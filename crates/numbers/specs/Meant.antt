@@ -1,9 +1,8 @@
--- What the cases of a number mean, by document 01.
+-- What the reader of a number answers, by document 01.
+use Rattle.std.specs.Prelude.{ℕ, Option, Some, None}
 use Rattle.terms.specs.Refusals.{not_in_form}
 use Rattle.sheets.specs.Number.{Value, means, wrong}
-use Rattle.numbers.specs.declared.Number.{Number}
-use Rattle.numbers.specs.declared.Number.TheVariants.{Means, NotInForm}
 
-abbrev pub meant : Number → Value
-meant (Means n) = means n
-meant NotInForm = wrong not_in_form
+abbrev pub meant : Option ℕ → Value
+meant (Some n) = means n
+meant None = wrong not_in_form

@@ -7,13 +7,7 @@ ghost use Rattle.text.specs.Digits.{all_digits, value as worth};
 ghost use Rattle.sheets.specs.Number.{digits_form, whole as meaning, miss_cost};
 ghost use Rattle.numbers.specs.Meant.{meant};
 
-use text::digits;
-
-#[derive(Clone, Copy)]
-pub enum Number {
-    Means(u32),
-    NotInForm,
-}
+use text::{digits, scan};
 
 // At least one and at most so many digits, no leading zero except 0 itself.
 fn in_form(text: &[u8], most: usize) -> bool
@@ -35,17 +29,13 @@ fn value(text: &[u8]) -> u64
     digits::value_at_most(text, 9999999999)
 }
 
-pub fn whole(text: &[u8]) -> Number
+pub fn whole(text: &[u8]) -> Option<u32>
     ensures { meant result ≡ meaning text.now }
 {
     if !in_form(text, 10) {
-        return Number::NotInForm;
+        return None;
     }
-    let n = value(text);
-    if 4294967295 < n {
-        return Number::NotInForm;
-    }
-    Number::Means(n as u32)
+    u32::try_from(value(text)).ok()
 }
 
 // Milliseconds and the three digits behind them, in thousandths.
@@ -57,17 +47,17 @@ fn thousandths(before: &[u8], after: &[u8]) -> u32
     (1000 * value(before) + value(after)) as u32
 }
 
-pub fn miss_cost(text: &[u8]) -> Number
+pub fn miss_cost(text: &[u8]) -> Option<u32>
     ensures { meant result ≡ miss_cost text.now }
 {
-    let n = text::scan::find(text, 0, text.len(), b',');
+    let n = scan::find(text, b',')?;
     if text.len() != n + 4 {
-        return Number::NotInForm;
+        return None;
     }
     let before = &text[..n];
     let after = &text[n + 1..];
     if !in_form(before, 4) || !digits::all_digits(after) {
-        return Number::NotInForm;
+        return None;
     }
-    Number::Means(thousandths(before, after))
+    Some(thousandths(before, after))
 }
