@@ -9,9 +9,12 @@ use Rattle.terms.specs.Choice.{∣◌∣}
 use Rattle.terms.specs.Policies.{policy_name}
 use Rattle.text.specs.Text.{bytes}
 use Rattle.sheets.specs.Result.{Outcome, decimal, milliseconds, line_of, result_sheet, refused_sheet}
-use Rattle.result.specs.Put.{PutFits, Put}
+use Rattle.result.specs.declared.Place.{Place}
+use Rattle.result.specs.Put.{PutFits}
+use Rattle.result.specs.Place.{Puts}
 use Rattle.result.specs.Parts.{tally_lines}
-use Rattle.result.proofs.Putting.{both, room_as}
+use Rattle.result.proofs.Putting.{room_as}
+use Rattle.result.proofs.Placing.{both}
 
 -- A line with a number.
 abbrev line : String → ℕ → List ℕ
@@ -45,7 +48,7 @@ module _ (r : Outcome) where
   tally_room room = let parts = simp length-append at room.fits in simp length-append (omega arith)
 
 -- A refused sheet is two lines.
-pub refused_put : (number n : ℕ) {w w₁ w₂ : List ℕ} {at a₁ a₂ : ℕ} → Put w at (line "refused=" number) w₁ a₁
-    → Put w₁ a₁ (line "line=" n) w₂ a₂ → Put w at (refused_sheet number n) w₂ a₂
+pub refused_put : (number n : ℕ) {p q r : Place} → Puts p (line "refused=" number) q → Puts q (line "line=" n) r
+    → Puts p (refused_sheet number n) r
 unfolding refused_sheet
 refused_put number n first second = both first second

@@ -8,8 +8,6 @@ use native.Mathlib.Nat.{zero-add}
 use lib.ListN.{set, take, drop, length-append, length-set, take-append-drop}
 use lib.Seq.{paste, take-length, take-paste, drop-paste, length-paste, take-suc-set, drop-set-lt, drop-drop}
 use Rattle.terms.specs.Choice.{∣◌∣}
-use Rattle.sheets.specs.Lines.{line_feed}
-use Rattle.sheets.specs.Result.{line_of}
 use Rattle.sheets.specs.Refusals.{over}
 use Rattle.result.specs.Put.{PutFits, Put}
 
@@ -60,11 +58,6 @@ room_as {w} {a = a} same room = subst (λ (x : List ℕ). PutFits w a x) same ro
 -- Such a law is handed to `omega` as it is, which applies it to what a place knows.
 pub room_both : {w : List ℕ} {a : ℕ} (x y : List ℕ) → PutFits w a (x ++ y) → a + (∣ x ∣ + ∣ y ∣) ≤ ∣ w ∣
 room_both x y room = omega (arith, length-append x y)
-
--- A line: its key, its value, a line feed.
-pub line_put : {w w₁ w₂ w₃ key value : List ℕ} {a b c d : ℕ}
-    → Put w a key w₁ b → Put w₁ b value w₂ c → Put w₂ c (line_feed ∷ []) w₃ d → Put w a (line_of key value) w₃ d
-line_put first second third = both first (both second third)
 
 -- What is put from the front on stands over the buffer.
 pub put_over : {w x w' : List ℕ} {n : ℕ} → Put w 0 x w' n → w' ≡ over x w

@@ -6,12 +6,13 @@ ghost use Rattle.std.specs.Prelude.{◌≡◌, [], ◌∷◌, ◌++◌};
 ghost use Rattle.terms.specs.Policies.{policy_name};
 ghost use Rattle.text.specs.Text.{bytes};
 ghost use Rattle.sheets.specs.Result.{last_digit, decimal, milliseconds, line_of, result_sheet};
-ghost use Rattle.result.specs.Put.{PutFits, Put};
+ghost use Rattle.result.specs.Place.{Fits, Puts};
 ghost use Rattle.result.specs.Parts.{tally_lines};
-ghost use Rattle.result.specs.Ledger.{request_line};
-ghost use Rattle.result.specs.Promises.{defined, WroteSheet, WroteRefusal, WroteRequest};
+ghost use Rattle.result.specs.Promises.{defined, line_for, WroteSheet, WroteRefusal, WroteRequest};
 
-use terms::{limits, policies, refusals};
+use terms::limits;
+use terms::policies::Policy;
+use terms::refusals::Refusal;
 
 // The least number of lent bytes.
 const LEAST: usize = limits::LEAST_RESULT_BYTES;
@@ -29,33 +30,22 @@ pub struct Outcome {
     pub wait: u64,
 }
 
-// The writer's answer: its number and the count of bytes written.
+// What a ledger's line says of one request and its answer.
 #[derive(Clone, Copy)]
-pub struct Written {
-    pub number: u32,
-    pub count: usize,
+pub struct Request {
+    pub request: u32,
+    pub page: u32,
+    pub kind: u32,
+    pub evicted: u32,
+    pub list: u32,
+    pub moves: u32,
 }
 
-// Puts a text at a place, and answers the place behind it.
-pub fn put(out: &mut [u8], at: usize, text: &[u8]) -> usize
-    requires { PutFits out.old at text.now }
-    ensures { Put out.old at text.now out.new result }
-{
-    let mut i = 0;
-    while i < text.len() {
-        out[at + i] = text[i];
-        i += 1;
-    }
-    at + i
-}
-
-// Puts one byte.
-fn put_byte(out: &mut [u8], at: usize, byte: u8) -> usize
-    requires { PutFits out.old at (byte ∷ []) }
-    ensures { Put out.old at (byte ∷ []) out.new result }
-{
-    out[at] = byte;
-    at + 1
+// Lent bytes, and the place where the next text is put.
+#[derive(Drop)]
+pub struct Place<'a> {
+    pub out: &'a mut [u8],
+    pub at: usize,
 }
 
 fn last_digit(n: u64) -> u8
@@ -64,191 +54,174 @@ fn last_digit(n: u64) -> u8
     (48 + n % 10) as u8
 }
 
-// Puts a number in digits: those before the last first, then the last.
-fn put_number(out: &mut [u8], at: usize, n: u64) -> usize
-    requires { PutFits out.old at (decimal n) }
-    ensures { Put out.old at (decimal n) out.new result }
-{
-    if n < 10 {
-        return put_byte(out, at, last_digit(n));
+impl<'a> Place<'a> {
+    // Puts a text.
+    pub fn put(&mut self, text: &[u8])
+        requires { Fits self.old text.now }
+        ensures { Puts self.old text.now self.new }
+    {
+        let next = self.at + text.len();
+        self.out[self.at..next].copy_from_slice(text);
+        self.at = next;
     }
-    let next = put_number(out, at, n / 10);
-    put_byte(out, next, last_digit(n))
-}
 
-// Puts a name and a number.
-fn put_named(out: &mut [u8], at: usize, name: &[u8], n: u32) -> usize
-    requires { PutFits out.old at (name.now ++ decimal n) }
-    ensures { Put out.old at (name.now ++ decimal n) out.new result }
-{
-    let next = put(out, at, name);
-    put_number(out, next, n as u64)
-}
-
-// Puts a line: a key, a number, a line feed.
-pub fn put_line(out: &mut [u8], at: usize, key: &[u8], n: u32) -> usize
-    requires { PutFits out.old at (line_of key.now (decimal n)) }
-    ensures { Put out.old at (line_of key.now (decimal n)) out.new result }
-{
-    let next = put_named(out, at, key, n);
-    put_byte(out, next, 10)
-}
-
-// Puts thousandths of a millisecond: the whole milliseconds, a comma, three digits.
-fn put_milliseconds(out: &mut [u8], at: usize, thousandths: u64) -> usize
-    requires { PutFits out.old at (milliseconds thousandths) }
-    ensures { Put out.old at (milliseconds thousandths) out.new result }
-{
-    let next = put_number(out, at, thousandths / 1000);
-    let part = thousandths % 1000;
-    let behind = [
-        b',',
-        last_digit(part / 100),
-        last_digit(part / 10),
-        last_digit(part),
-    ];
-    put(out, next, &behind)
-}
-
-// Puts a policy's name; a number that is no policy's has none.
-fn put_name(out: &mut [u8], at: usize, policy: u32) -> usize
-    requires { PutFits out.old at (bytes (policy_name policy)) }
-    ensures { Put out.old at (bytes (policy_name policy)) out.new result }
-{
-    match policy {
-        policies::CAR => put(out, at, &policies::CAR_NAME),
-        policies::CART => put(out, at, &policies::CART_NAME),
-        policies::FIFO => put(out, at, &policies::FIFO_NAME),
-        policies::CLOCK => put(out, at, &policies::CLOCK_NAME),
-        policies::LRU => put(out, at, &policies::LRU_NAME),
-        _ => at,
+    // Puts one byte.
+    fn put_byte(&mut self, byte: u8)
+        requires { Fits self.old (byte ∷ []) }
+        ensures { Puts self.old (byte ∷ []) self.new }
+    {
+        self.out[self.at] = byte;
+        self.at += 1;
     }
-}
 
-fn put_policy(out: &mut [u8], at: usize, policy: u32) -> usize
-    requires { PutFits out.old at (line_of (bytes "policy=") (bytes (policy_name policy))) }
-    ensures { Put out.old at (line_of (bytes "policy=") (bytes (policy_name policy)))
-        out.new result }
-{
-    let next = put(out, at, b"policy=");
-    let last = put_name(out, next, policy);
-    put_byte(out, last, 10)
-}
+    // Puts a number in digits: those before the last first, then the last. By hand: `write!` may answer an error and std's
+    // text of a fixed size may be cut, so neither promises `decimal n`, and the crate itoa is written with `unsafe`.
+    fn put_number(&mut self, n: u64)
+        requires { Fits self.old (decimal n) }
+        ensures { Puts self.old (decimal n) self.new }
+    {
+        if n < 10 {
+            return self.put_byte(last_digit(n));
+        }
+        self.put_number(n / 10);
+        self.put_byte(last_digit(n));
+    }
 
-fn put_wait(out: &mut [u8], at: usize, wait: u64) -> usize
-    requires { PutFits out.old at (line_of (bytes "wait=") (milliseconds wait)) }
-    ensures { Put out.old at (line_of (bytes "wait=") (milliseconds wait)) out.new result }
-{
-    let next = put(out, at, b"wait=");
-    let end = put_milliseconds(out, next, wait);
-    put_byte(out, end, 10)
-}
+    // Puts a name and a number.
+    fn put_named(&mut self, name: &[u8], n: u32)
+        requires { Fits self.old (name.now ++ decimal n) }
+        ensures { Puts self.old (name.now ++ decimal n) self.new }
+    {
+        self.put(name);
+        self.put_number(n as u64);
+    }
 
-// Puts the five lines of the run's tally.
-fn put_tally(out: &mut [u8], at: usize, o: Outcome) -> usize
-    requires { PutFits out.old at (tally_lines (defined o)) }
-    ensures { Put out.old at (tally_lines (defined o)) out.new result }
-{
-    let mut next = put_line(out, at, b"requests=", o.requests);
-    next = put_line(out, next, b"hits=", o.hits);
-    next = put_line(out, next, b"misses=", o.misses);
-    next = put_line(out, next, b"evictions=", o.evictions);
-    put_line(out, next, b"steps=", o.steps)
-}
+    // Puts a line: a key, a number, a line feed.
+    pub fn put_line(&mut self, key: &[u8], n: u32)
+        requires { Fits self.old (line_of key.now (decimal n)) }
+        ensures { Puts self.old (line_of key.now (decimal n)) self.new }
+    {
+        self.put_named(key, n);
+        self.put_byte(10);
+    }
 
-// Puts the whole sheet.
-fn put_sheet(out: &mut [u8], o: Outcome) -> usize
-    requires { PutFits out.old 0 (result_sheet (defined o)) }
-    ensures { Put out.old 0 (result_sheet (defined o)) out.new result }
-{
-    let mut next = put_policy(out, 0, o.policy);
-    next = put_line(out, next, b"pages=", o.pages);
-    next = put_tally(out, next, o);
-    put_wait(out, next, o.wait)
+    // Puts thousandths of a millisecond: the whole milliseconds, a comma, three digits.
+    fn put_milliseconds(&mut self, thousandths: u64)
+        requires { Fits self.old (milliseconds thousandths) }
+        ensures { Puts self.old (milliseconds thousandths) self.new }
+    {
+        self.put_number(thousandths / 1000);
+        let part = thousandths % 1000;
+        let behind = [
+            b',',
+            last_digit(part / 100),
+            last_digit(part / 10),
+            last_digit(part),
+        ];
+        self.put(&behind);
+    }
+
+    // Puts a policy's name; a number that is no policy's has none.
+    fn put_name(&mut self, policy: u32)
+        requires { Fits self.old (bytes (policy_name policy)) }
+        ensures { Puts self.old (bytes (policy_name policy)) self.new }
+    {
+        if let Ok(known) = Policy::try_from(policy) {
+            self.put(known.name());
+        }
+    }
+
+    fn put_policy(&mut self, policy: u32)
+        requires { Fits self.old (line_of (bytes "policy=") (bytes (policy_name policy))) }
+        ensures { Puts self.old (line_of (bytes "policy=") (bytes (policy_name policy))) self.new }
+    {
+        self.put(b"policy=");
+        self.put_name(policy);
+        self.put_byte(10);
+    }
+
+    fn put_wait(&mut self, wait: u64)
+        requires { Fits self.old (line_of (bytes "wait=") (milliseconds wait)) }
+        ensures { Puts self.old (line_of (bytes "wait=") (milliseconds wait)) self.new }
+    {
+        self.put(b"wait=");
+        self.put_milliseconds(wait);
+        self.put_byte(10);
+    }
+
+    // Puts the five lines of the run's tally.
+    fn put_tally(&mut self, o: Outcome)
+        requires { Fits self.old (tally_lines (defined o)) }
+        ensures { Puts self.old (tally_lines (defined o)) self.new }
+    {
+        self.put_line(b"requests=", o.requests);
+        self.put_line(b"hits=", o.hits);
+        self.put_line(b"misses=", o.misses);
+        self.put_line(b"evictions=", o.evictions);
+        self.put_line(b"steps=", o.steps);
+    }
+
+    // Puts the whole sheet.
+    fn put_sheet(&mut self, o: Outcome)
+        requires { Fits self.old (result_sheet (defined o)) }
+        ensures { Puts self.old (result_sheet (defined o)) self.new }
+    {
+        self.put_policy(o.policy);
+        self.put_line(b"pages=", o.pages);
+        self.put_tally(o);
+        self.put_wait(o.wait);
+    }
+
+    // Puts a ledger's line.
+    fn put_request(&mut self, r: Request)
+        requires { Fits self.old (line_for r) }
+        ensures { Puts self.old (line_for r) self.new }
+    {
+        self.put_named(b"request=", r.request);
+        self.put_named(b" page=", r.page);
+        self.put_named(b" kind=", r.kind);
+        self.put_named(b" evicted=", r.evicted);
+        self.put_named(b" list=", r.list);
+        self.put_line(b" moves=", r.moves);
+    }
 }
 
 // The result sheet of an outcome, in front of the lent bytes. Refusals 1 and 6.
-pub fn write(out: &mut [u8], outcome: Outcome) -> Written
+pub fn write(out: &mut [u8], outcome: Outcome) -> Result<usize, Refusal>
     ensures { WroteSheet outcome out.old result out.new }
 {
-    if !policies::known_policy(outcome.policy) {
-        return Written {
-            number: refusals::POLICY_NOT_KNOWN,
-            count: 0,
-        };
-    }
+    Policy::try_from(outcome.policy)?;
     if out.len() < LEAST {
-        return Written {
-            number: refusals::BUFFER_TOO_SHORT,
-            count: 0,
-        };
+        return Err(Refusal::BufferTooShort);
     }
-    Written {
-        number: refusals::ACCEPTED,
-        count: put_sheet(out, outcome),
-    }
+    let mut place = Place { out, at: 0 };
+    place.put_sheet(outcome);
+    Ok(place.at)
 }
 
 // The two lines of a refused bid sheet. Refusal 6.
 #[tactic(auto, using(crate::proofs::Refused::text_short))]
-pub fn write_refusal(out: &mut [u8], number: u32, line: u32) -> Written
+pub fn write_refusal(out: &mut [u8], number: u32, line: u32) -> Result<usize, Refusal>
     ensures { WroteRefusal number line out.old result out.new }
 {
     if out.len() < LEAST {
-        return Written {
-            number: refusals::BUFFER_TOO_SHORT,
-            count: 0,
-        };
+        return Err(Refusal::BufferTooShort);
     }
-    let next = put_line(out, 0, b"refused=", number);
-    Written {
-        number: refusals::ACCEPTED,
-        count: put_line(out, next, b"line=", line),
-    }
-}
-
-// Puts a ledger's line.
-fn put_request(
-    out: &mut [u8],
-    request: u32,
-    page: u32,
-    kind: u32,
-    evicted: u32,
-    list: u32,
-    moves: u32,
-) -> usize
-    requires { PutFits out.old 0 (request_line request page kind evicted list moves) }
-    ensures { Put out.old 0 (request_line request page kind evicted list moves) out.new result }
-{
-    let mut next = put_named(out, 0, b"request=", request);
-    next = put_named(out, next, b" page=", page);
-    next = put_named(out, next, b" kind=", kind);
-    next = put_named(out, next, b" evicted=", evicted);
-    next = put_named(out, next, b" list=", list);
-    put_line(out, next, b" moves=", moves)
+    let mut place = Place { out, at: 0 };
+    place.put_line(b"refused=", number);
+    place.put_line(b"line=", line);
+    Ok(place.at)
 }
 
 // A ledger's line of one request and its answer. Refusal 6.
 #[tactic(auto, using(crate::proofs::Refused::text_short))]
-pub fn write_request(
-    out: &mut [u8],
-    request: u32,
-    page: u32,
-    kind: u32,
-    evicted: u32,
-    list: u32,
-    moves: u32,
-) -> Written
-    ensures { WroteRequest request page kind evicted list moves out.old result out.new }
+pub fn write_request(out: &mut [u8], request: Request) -> Result<usize, Refusal>
+    ensures { WroteRequest request out.old result out.new }
 {
     if out.len() < LEAST {
-        return Written {
-            number: refusals::BUFFER_TOO_SHORT,
-            count: 0,
-        };
+        return Err(Refusal::BufferTooShort);
     }
-    Written {
-        number: refusals::ACCEPTED,
-        count: put_request(out, request, page, kind, evicted, list, moves),
-    }
+    let mut place = Place { out, at: 0 };
+    place.put_request(request);
+    Ok(place.at)
 }
