@@ -1,7 +1,7 @@
 -- How the words of the trade are argued with.
 --
 -- In order: the examples of specs/Examples; what holds of a choice by a test (`by_test`, `by_tests`, `either`); numbers
--- in a row (`Rows`); tests read as facts, and facts as tests (`simp reads`), two tests that agree (`agree`), and a test
+-- in a row (`Rows`); the refusals by their numbers (`Numbers`); tests read as facts, and facts as tests (`simp reads`), two tests that agree (`agree`), and a test
 -- that a function answered (`test_holds`, `test_fails`); what holds of each policy holds of every known one
 -- (`by-policy`).
 --
@@ -10,5 +10,6 @@
 pub mod Examples
 pub mod Choice
 pub mod Rows
+pub mod Numbers
 pub mod Tests
 pub mod ByPolicy
