@@ -1,20 +1,18 @@
 -- Pages that differ from an entry on, and a page told from those behind it by what is noted of these.
 -- For `stands_behind`, which looks behind one entry, and for the loop of `pages_differ`, which goes to the front.
-use Rattle.std.specs.Prelude.{if◌then◌else◌}
+use Rattle.std.specs.Prelude.{Option, Some, None, if◌then◌else◌}
+use Rattle.std.specs.Option.{is_some}
 use mathlib.Core.Path.{◌≡◌, refl, sym, ap, ◌∙◌}
 use mathlib.Core.Bool.{Bool, true, false, true≢false}
 use mathlib.Core.List.{List, [], ◌∷◌}
 use Prim.Native.Nat.{ℕ, zero, suc, ◌+◌, ◌-◌, ◌*◌, ◌<◌}
 use native.Mathlib.Omega.{arith}
-use lib.Dec.{eqb, ltb}
+use lib.Dec.{eqb}
 use lib.ListN.{length, drop, get_or, length-drop}
-use borrow.Author.Tests.{eqb-true, ltb-true, ltb-false}
-use Rattle.terms.specs.Choice.{∣◌∣}
+use borrow.Author.Tests.{eqb-true}
 use Rattle.figures.specs.Entry.{Entry, has, differ}
-use Rattle.entries.specs.Stretches.{index}
 use Rattle.entries.specs.Leaves.{FoundAt}
 use Rattle.entries.proofs.Reading.{Held, EntryAt, held_from, told}
-use Rattle.entries.proofs.Indexes.{index_has, index_lacks}
 use Rattle.differing.specs.Seen.{BitsKept, Noted, AllNoted}
 
 -- Pages that do not differ from an entry on do not differ.
@@ -42,20 +40,14 @@ unseen page l all told not = go (has page l) refl
     go true is = absurd (true≢false (sym (told (all page is)) ∙ not))
     go false is = refl
 
-has_by_index : (x : ℕ) (l : List Entry) → has x l ≡ ltb (index x l) ∣ l ∣
-has_by_index x l = go (ltb (index x l) ∣ l ∣) refl
-  where
-    go : (b : Bool) → ltb (index x l) ∣ l ∣ ≡ b → has x l ≡ b
-    go true e = index_has x l (ltb-true _ _ e)
-    go false e = index_lacks x l (ltb-false _ _ e)
-
 -- A page that is searched for behind entry i stands there if it is found.
-pub searched : (i x : ℕ) {w : List ℕ} {a n from many k : ℕ} {l : List Entry} → Held w a l → length l ≡ n → i < n
-    → FoundAt w from many x k → from ≡ a + 2 * i + 2 → many ≡ n - i - 1 → has x (drop (i + 1) l) ≡ ltb k many
-searched i x {many = many} {l = l} h is inside found starts ends =
-    let as_many : length (drop (i + 1) l) ≡ many = simp length-drop (omega arith) in
-    let place = told (held_from h (i + 1) (omega arith)) found.1 (omega arith) as_many in
-    rw (place, ← as_many) (has_by_index x (drop (i + 1) l))
+pub searched : (i x : ℕ) (r : Option ℕ) {w : List ℕ} {a n from many : ℕ} {l : List Entry} → Held w a l → length l ≡ n
+    → i < n → FoundAt w from many x r → from ≡ a + 2 * i + 2 → many ≡ n - i - 1 → has x (drop (i + 1) l) ≡ is_some r
+searched i x None h is inside found starts ends =
+    told (held_from h (i + 1) (omega arith)) found (omega arith) (simp length-drop (omega arith))
+searched i x (Some k) h is inside found starts ends =
+    let place = told (held_from h (i + 1) (omega arith)) found.1 (omega arith) (simp length-drop (omega arith)) in
+    place.0
 
 module _ {w : List ℕ} {a : ℕ} {l : List Entry} {i at : ℕ} (s : EntryAt w a l i) where
   page_at : at ≡ a + 2 * i → get_or w at 0 ≡ s.here.page

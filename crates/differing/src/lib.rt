@@ -17,11 +17,7 @@ fn stands_behind(dir: &[u32], n: usize, i: usize, noted: &[u32; seen::WORDS]) ->
     ensures { LookedBehind dir.now n i noted.now result }
 {
     let at = header::ENTRIES + 2 * i;
-    if !seen::may_have(noted, dir[at]) {
-        return false;
-    }
-    let behind = n - i - 1;
-    search::find(dir, at + 2, behind, dir[at]) < behind
+    seen::may_have(noted, dir[at]) && search::find(dir, at + 2, n - i - 1, dir[at]).is_some()
 }
 
 // Whether the pages of the first n entries differ.
@@ -30,9 +26,7 @@ pub fn pages_differ(dir: &[u32], n: usize) -> bool
     ensures { OfEntries dir.now 8 n (λ l. result ≡ differ l) }
 {
     let mut noted = [0u32; seen::WORDS];
-    let mut i = n;
-    while 0 < i {
-        i -= 1;
+    for i in (0..n).rev() {
         if stands_behind(dir, n, i, &noted) {
             return false;
         }

@@ -31,7 +31,7 @@ fn set(seen: &mut [u32; WORDS], place: usize)
     requires { (place < places) × (length seen.old ≡ seen_words) }
     ensures { (bit_at seen.new place ≡ 1) × BitsKept seen.old seen.new }
 {
-    seen[place / 32] = seen[place / 32] | 1 << (place % 32);
+    seen[place / 32] |= 1 << (place % 32);
 }
 
 // Notes a page: both its bits are set, and those that were set stay so.
@@ -47,8 +47,5 @@ pub fn note(seen: &mut [u32; WORDS], page: u32)
 pub fn may_have(seen: &[u32; WORDS], page: u32) -> bool
     ensures { Noted page seen.now → result ≡ true }
 {
-    if !is_set(seen, low_place(page)) {
-        return false;
-    }
-    is_set(seen, mixed_place(page))
+    is_set(seen, low_place(page)) && is_set(seen, mixed_place(page))
 }

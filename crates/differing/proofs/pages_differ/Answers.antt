@@ -23,7 +23,6 @@ loop-i-preserved c =
     let one_back : i + 1 ≡ v.i = omega arith in
     let note = c.note.ensures in
     record {
-      within = omega arith;
       as_many = note.1.as_many ∙ v.invariant.as_many;
       seen = λ l h many.
           let behind : SeenFrom l (i + 1) v.noted = rw one_back (v.invariant.seen l h many) in

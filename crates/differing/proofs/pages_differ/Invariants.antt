@@ -1,5 +1,5 @@
 -- The entries from i on have different pages, and all of these are noted.
-use Rattle.std.proofs.Common.{◌≡◌, ◌≤◌, List, length}
+use Rattle.std.proofs.Common.{◌≡◌, List, length}
 use Rattle.figures.specs.Entry.{Entry}
 use Rattle.entries.proofs.Reading.{Held}
 use Rattle.differing.specs.Seen.{seen_words}
@@ -9,10 +9,6 @@ use Rattle.differing.proofs.pages_differ.Given as goal
 abbrev pub invariant-loop-i : goal.invariant-loop-i
 invariant-loop-i l =
     record {
-      within : l.i ≤ l.n;
       as_many : length l.noted ≡ seen_words;
       seen : (all : List Entry) → Held l.dir 8 all → length all ≡ l.n → SeenFrom all l.i l.noted;
     }
-
-abbrev pub decreases-loop-i : goal.decreases-loop-i
-decreases-loop-i l = l.i
