@@ -10,10 +10,10 @@ use Rattle.figures.specs.Directory.{Directory, Name, list_of, in_cache}
 use Rattle.figures.specs.Words.{decode}
 use Rattle.laws.proofs.Encoding.{decoded}
 use Rattle.engine.specs.declared.Hand.{Hand}
-use Rattle.engine.specs.Shown.{Makes}
+use Rattle.engine.specs.Shown.{Makes, moved_once, turned_once}
 use Rattle.engine.specs.Heads.{front_of, head_to}
 use Rattle.engine.specs.Choosing.{Turning, Chosen, EndsFrom}
-use Rattle.engine.proofs.Choosing.{turned_once, demoted_once, turns_on, fewer_bits, goes-on, stops_here}
+use Rattle.engine.proofs.Choosing.{turns_on, fewer_bits, goes-on, stops_here}
 use Rattle.entries.specs.Holds.{Holds}
 use Rattle.entries.specs.Flags.{Says, Becomes}
 use Rattle.entries.specs.Leaves.{HeadMoved}
@@ -51,7 +51,7 @@ module _ {w : List ℕ} {k : Hand} {i at : ℕ} (t : Turning Holds w k) (known :
 
   pub look_stops : {f : ℕ} {L : List ℕ} → bit ≡ false → Becomes demoted (get_or w (at + 1) 0) f
       → HeadMoved i (i + 2) f w L
-      → EndsFrom Holds w k (record { page = get_or w at 0; list = i + 1; hand = demoted_once k }) L
+      → EndsFrom Holds w k (record { page = get_or w at 0; list = i + 1; hand = moved_once k }) L
   look_stops {L = L} is becomes moved =
       let demotes = head_moved (omega arith) some start (i + 2) demoted (λ e. refl) becomes moved in
       stops_here t (name_of i) choice (has_head t i choice) (list-word i known) (λ d shown. sym (bit_read d shown) ∙ is)

@@ -16,28 +16,26 @@ ghost use Rattle.entries.specs.Stretches.{Room, name_of};
 ghost use Rattle.entries.specs.Returning.{Full, Freed};
 ghost use Rattle.car.specs.Looking.{LooksFrom};
 
-use engine::kinds;
+use engine::kinds::Kind;
 use entries::{flags, header, lists, returning, targets};
-
-// What so many looks come to: the page that was evicted, or none yet and the hand so far.
-#[derive(Clone, Copy)]
-enum Looked {
-    Stopped(engine::Evicted),
-    Again(engine::Hand),
-}
+use std::ops::ControlFlow;
 
 // So many looks stand on the stack at most: after them the choice hands back, and evict asks it again.
 const LOOKS: u32 = 8;
 
-// Line 24, the choice of a clock, with so many looks left.
+// Line 24, the choice of a clock, with so many looks left: the page that was evicted, or none yet and the hand so far.
 #[cycle(choose_look)]
-fn choose(dir: &mut [u32], hand: engine::Hand, left: u32) -> Looked
+fn choose(
+    dir: &mut [u32],
+    hand: engine::Hand,
+    left: u32,
+) -> ControlFlow<engine::Evicted, engine::Hand>
     requires room { Room dir.old }
     requires turning { Turning Holds dir.old hand }
     ensures { LooksFrom left dir.old hand result dir.new }
 {
     if left == 0 {
-        return Looked::Again(hand);
+        return ControlFlow::Continue(hand);
     }
     if targets::t1_at_target(dir) {
         look(dir, lists::T1, hand, left)
@@ -48,7 +46,12 @@ fn choose(dir: &mut [u32], hand: engine::Hand, left: u32) -> Looked
 
 // Lines 25 to 30 and 32 to 37, the look at the head of clock i, the first of so many that are left.
 #[cycle(choose_look)]
-fn look(dir: &mut [u32], i: usize, hand: engine::Hand, left: u32) -> Looked
+fn look(
+    dir: &mut [u32],
+    i: usize,
+    hand: engine::Hand,
+    left: u32,
+) -> ControlFlow<engine::Evicted, engine::Hand>
     requires room { Room dir.old }
     requires turning { Turning Holds dir.old hand }
     requires i_chosen { (i ≤ 1) × Chosen Holds (name_of i) dir.old }
@@ -58,17 +61,14 @@ fn look(dir: &mut [u32], i: usize, hand: engine::Hand, left: u32) -> Looked
     let at = lists::start_of(dir, i);
     let page = dir[at];
     let f = dir[at + 1];
-    let moves = hand.moves + 1;
     if flags::bit(f) {
         lists::move_head(dir, i, lists::T2, flags::cleared(f));
-        let cleared = hand.cleared + 1;
-        choose(dir, engine::Hand { moves, cleared }, left - 1)
+        choose(dir, hand.turned(), left - 1)
     } else {
         lists::move_head(dir, i, i + 2, flags::demoted(f));
-        let cleared = hand.cleared;
         let list = i as u32 + 1;
-        let hand = engine::Hand { moves, cleared };
-        Looked::Stopped(engine::Evicted { page, list, hand })
+        let hand = hand.moved();
+        ControlFlow::Break(engine::Evicted { page, list, hand })
     }
 }
 
@@ -77,19 +77,11 @@ pub fn evict(dir: &mut [u32]) -> engine::Evicted
     requires { Full car dir.old }
     ensures { EvictedAs Holds (Car.evict (decode dir.old)) result dir.new }
 {
-    let mut hand = engine::Hand {
-        moves: 0,
-        cleared: 0,
-    };
+    let mut hand = engine::Hand::default();
     loop {
-        let looked = choose(dir, hand, LOOKS);
-        match looked {
-            Looked::Stopped(out) => {
-                return out;
-            }
-            Looked::Again(so_far) => {
-                hand = so_far;
-            }
+        match choose(dir, hand, LOOKS) {
+            ControlFlow::Break(out) => return out,
+            ControlFlow::Continue(so_far) => hand = so_far,
         }
     }
 }
@@ -113,7 +105,7 @@ fn trim(dir: &mut [u32])
 }
 
 // Lines 6 to 20: the page from B1, from B2, or new; the answer's kind.
-fn place(dir: &mut [u32], page: u32) -> u32
+fn place(dir: &mut [u32], page: u32) -> Kind
     requires freed { Freed dir.old }
     requires t1_b1_fit { n_t1 dir.old + n_b1 dir.old ≤ size dir.old }
     ensures { (h : Hand) → Holds h.dir dir.old
@@ -126,7 +118,7 @@ fn place(dir: &mut [u32], page: u32) -> u32
         flags: flags::NEW_SHORT,
     };
     let kind = returning::come_back(dir, page, to);
-    if kind == kinds::NEW {
+    if kind == Kind::New {
         trim(dir);
         lists::place_new(dir, page);
     }

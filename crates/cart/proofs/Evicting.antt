@@ -15,6 +15,7 @@ use Rattle.laws.proofs.Lists.{total_append, total_at_most, bits_at_most_one, sho
 use Rattle.laws.proofs.Facts.{CartFacts}
 use Rattle.laws.proofs.Soundness.{cart_iff}
 use Rattle.laws.proofs.Cart.{cost_at_most_two, cart_stops, cart_opens, cart_opened, cart_counts}
+use Rattle.engine.specs.declared.Hand.{Hand}
 use Rattle.engine.specs.declared.counts.Kept.{Kept}
 use Rattle.engine.specs.declared.counts.AfterEvict.{AfterEvict}
 use Rattle.engine.specs.Passes.{Passing, ShowsHand, EvictedWithCounts}
@@ -28,9 +29,8 @@ use Rattle.entries.proofs.Rooms.{Filled, filled, freed}
 use Rattle.cart.specs.Passing.{CountsFit}
 
 -- What is kept at the start, where n pages are cached and so many of them are L.
-abbrev pub kept_at_start : ℕ → ℕ → Kept
-kept_at_start n longs =
-    record { short = record { 0 = n - longs }; long = record { 0 = longs }; hand = record { moves = 0; cleared = 0 } }
+abbrev pub kept_at_start : ℕ → ℕ → Hand → Kept
+kept_at_start n longs hand = record { short = record { 0 = n - longs }; long = record { 0 = longs }; hand = hand }
 
 module _ {w : List ℕ} (f : Full cart w) where
   abbrev held : Filled cart w
@@ -42,8 +42,9 @@ module _ {w : List ℕ} (f : Full cart w) where
   pub stops : CartStops (decode w)
   stops = cart_stops (decode w) held.shared own held.full
 
-  -- What `count` says of the entries of T1 and T2.
-  module _ {longs : ℕ} (counts : OfEntries w 8 (n_t1 w + n_t2 w) (λ l. longs ≡ total (of_flag 2) l)) where
+  -- What `count` says of the entries of T1 and T2; and no move is made.
+  module _ {longs : ℕ} (counts : OfEntries w 8 (n_t1 w + n_t2 w) (λ l. longs ≡ total (of_flag 2) l))
+      {hand : Hand} (none : (hand.moves ≡ 0) × (hand.cleared ≡ 0)) where
     counts_longs : longs ≡ in_cache long (decode w)
     counts_longs =
         let d = decode w in
@@ -51,7 +52,7 @@ module _ {w : List ℕ} (f : Full cart w) where
         told (cache_held d w held.is) counts refl (simp length-append (omega arith))
         ∙ total_append long d.t1 d.t2
 
-    pub begins_passing : Passing Holds w (kept_at_start (n_t1 w + n_t2 w) longs)
+    pub begins_passing : Passing Holds w (kept_at_start (n_t1 w + n_t2 w) longs hand)
     begins_passing =
         let d = decode w in
         let r = header d w held.is in
@@ -64,7 +65,7 @@ module _ {w : List ℕ} (f : Full cart w) where
           accounts = omega (arith, held.shared, own, held.full, short_and_long d.t1, short_and_long d.t2);
         }
 
-    pub begins_shown : ShowsHand Holds (counted (decode w)) w (kept_at_start (n_t1 w + n_t2 w) longs)
+    pub begins_shown : ShowsHand Holds (counted (decode w)) w (kept_at_start (n_t1 w + n_t2 w) longs hand)
     unfolding begins_passing
     begins_shown = record { shown = held.is; keeps = omega (arith, begins_passing.accounts) }
 

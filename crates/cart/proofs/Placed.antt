@@ -14,6 +14,7 @@ use Rattle.figures.specs.Policy.{cart_policy}
 use Rattle.laws.proofs.Lists.{length_tail, length_without}
 use Rattle.engine.specs.declared.counts.ShortCount.{ShortCount}
 use Rattle.engine.specs.declared.counts.LongCount.{LongCount}
+use Rattle.engine.specs.declared.kinds.Kind.{Kind}
 use Rattle.engine.specs.Shown.{Makes, PlacedAs}
 use Rattle.engine.proofs.Placed.{placed_b1, placed_b2, placed_new}
 use Rattle.entries.specs.Holds.{Holds}
@@ -25,16 +26,16 @@ use Rattle.entries.proofs.Rooms.{roomy}
 use Rattle.cart.specs.Passing.{Raisable, CountsFit}
 
 -- By where the page was. m and n are the dividends for a page found in B1 and in B2: each matters to its own case.
-module _ {x : ℕ} {h : Hand} {w w₁ : List ℕ} {kind : ℕ} where
-  pub from-B1 : {n : ℕ} → Returned h.dir x (new_long x) T1 h.n_s n w w₁ kind → ¬ (kind ≡ 4) → ¬ (kind ≡ 2)
+module _ {x : ℕ} {h : Hand} {w w₁ : List ℕ} {kind : Kind} where
+  pub from-B1 : {n : ℕ} → Returned h.dir x (new_long x) T1 h.n_s n w w₁ kind → ¬ (kind ≡ Kind.FromB2) → ¬ (kind ≡ Kind.New)
       → PlacedAs Holds cart_policy x h kind w₁
   unfolding place_b1
-  from-B1 r not-four not-two =
-      let was = was_in_b1 r not-two not-four in
+  from-B1 r not-from-b2 not-new =
+      let was = was_in_b1 r not-new not-from-b2 in
       rw was.0 (placed_b1 Holds cart_policy x h was.1 was.2)
 
   pub from-B2 : {m : ℕ} → Returned h.dir x (new_long x) T1 m h.n_l w w₁ kind
-      → {w₂ : List ℕ} → kind ≡ 4 → Makes Holds (raise h.n_s) w₁ w₂ → PlacedAs Holds cart_policy x h kind w₂
+      → {w₂ : List ℕ} → kind ≡ Kind.FromB2 → Makes Holds (raise h.n_s) w₁ w₂ → PlacedAs Holds cart_policy x h kind w₂
   unfolding place_b2
   from-B2 r is raised =
       let was = was_in_b2 r is in
@@ -42,7 +43,7 @@ module _ {x : ℕ} {h : Hand} {w w₁ : List ℕ} {kind : ℕ} where
       rw is (placed_b2 Holds cart_policy x h was.0 was.1 (raised back was.2))
 
   pub new_page : {m n : ℕ} → Returned h.dir x (new_long x) T1 m n w w₁ kind
-      → {w₂ : List ℕ} → kind ≡ 2 → (w₁ ≡ w → Holds (place_new x (trim h.dir)) w₂)
+      → {w₂ : List ℕ} → kind ≡ Kind.New → (w₁ ≡ w → Holds (place_new x (trim h.dir)) w₂)
       → PlacedAs Holds cart_policy x h kind w₂
   new_page r is placed =
       let was = was_new r is in
@@ -63,7 +64,7 @@ module _ {w w₁ : List ℕ} {n_s : ShortCount} {n_l : LongCount} (free : Freed 
           omega (arith, free.bounds, free.one_free, fit),
         )
 
-    pub raise_ready : {x m n kind : ℕ} → Returned (decode w) x (new_long x) T1 m n w w₁ kind → ¬ (kind ≡ 2)
+    pub raise_ready : {x m n : ℕ} {kind : Kind} → Returned (decode w) x (new_long x) T1 m n w w₁ kind → ¬ (kind ≡ Kind.New)
         → Room w₁ × Raisable w₁ n_s.0
     raise_ready {x} {m} (from-b1 found is) not_new =
         let d = decode w in

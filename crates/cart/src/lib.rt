@@ -18,8 +18,9 @@ ghost use Rattle.entries.specs.Flags.{Says};
 ghost use Rattle.entries.specs.Returning.{Full, Freed};
 ghost use Rattle.cart.specs.Passing.{lengthens, HeadFlags, SecondTest, HeadDemoted, Raisable, CountsFit};
 
-use engine::{counts, kinds};
-use entries::{amounts, flags, header, lists, returning, search, targets};
+use engine::counts;
+use engine::kinds::Kind;
+use entries::{flags, header, lists, returning, search, targets};
 
 // The flags of the head of list i, and where it is empty those of a head at which both passes stop.
 fn head_flags(dir: &[u32], i: usize) -> u32
@@ -46,7 +47,7 @@ fn raise(dir: &mut [u32], short: counts::ShortCount)
     let k2 = dir[header::B2_LENGTH];
     let short = short.0;
     if c <= n2 + k2 + n1 - short {
-        dir[header::Q] = amounts::least(dir[header::Q] + 1, 2 * c - n1);
+        dir[header::Q] = (dir[header::Q] + 1).min(2 * c - n1);
     }
 }
 
@@ -55,9 +56,8 @@ fn lower(dir: &mut [u32])
     requires { (8 ≤ length dir.old) × (n_t1 dir.old ≤ get_or dir.old 1 0) }
     ensures { Makes Holds Cart.lower dir.old dir.new }
 {
-    let q = dir[header::Q];
-    let less = if q == 0 { 0 } else { q - 1 };
-    dir[header::Q] = amounts::greatest(less, dir[header::SIZE] - dir[header::T1_LENGTH]);
+    let least = dir[header::SIZE] - dir[header::T1_LENGTH];
+    dir[header::Q] = dir[header::Q].saturating_sub(1).max(least);
 }
 
 // Lines 23 to 26, the first pass.
@@ -69,15 +69,9 @@ fn first_pass(dir: &mut [u32], kept: counts::Kept) -> counts::Kept
     let mut now = kept;
     let mut f = head_flags(dir, lists::T2);
     while flags::bit(f) {
-        let short = now.short;
-        let long = now.long;
         lists::t2_head_to_t1(dir);
-        raise(dir, short);
-        let hand = engine::Hand {
-            moves: now.hand.moves + 1,
-            cleared: now.hand.cleared + 1,
-        };
-        now = counts::Kept { short, long, hand };
+        raise(dir, now.short);
+        now.hand = now.hand.turned();
         f = head_flags(dir, lists::T2);
     }
     now
@@ -93,8 +87,7 @@ fn becomes_long(dir: &[u32], f: u32) -> bool
         return false;
     }
     let p = dir[header::P] + entries::UNIT;
-    amounts::least(p, entries::UNIT * dir[header::B1_LENGTH])
-        <= entries::UNIT * dir[header::T1_LENGTH]
+    p.min(entries::UNIT * dir[header::B1_LENGTH]) <= entries::UNIT * dir[header::T1_LENGTH]
 }
 
 // Lines 28 to 33: T1's head, whose flags are f and which is L or has its bit set.
@@ -104,29 +97,24 @@ fn turn(dir: &mut [u32], f: u32, kept: counts::Kept) -> counts::Kept
     requires head_flags { HeadFlags 0 f dir.old × SecondTest true dir.old }
     ensures { Looked Holds Cart.second_look dir.old kept dir.new result }
 {
-    let short = kept.short;
-    let long = kept.long;
-    let moves = kept.hand.moves + 1;
-    let cleared = kept.hand.cleared;
     let plain = flags::cleared(f);
     if flags::bit(f) {
-        let cleared = cleared + 1;
-        let hand = engine::Hand { moves, cleared };
+        let hand = kept.hand.turned();
         if becomes_long(dir, f) {
             lists::move_head(dir, lists::T1, lists::T1, flags::made_long(plain));
             return counts::Kept {
-                short: counts::ShortCount(short.0 - 1),
-                long: counts::LongCount(long.0 + 1),
+                short: counts::ShortCount(kept.short.0 - 1),
+                long: counts::LongCount(kept.long.0 + 1),
                 hand,
             };
         }
         lists::move_head(dir, lists::T1, lists::T1, plain);
-        return counts::Kept { short, long, hand };
+        return counts::Kept { hand, ..kept };
     }
     lists::move_head(dir, lists::T1, lists::T2, plain);
     lower(dir);
-    let hand = engine::Hand { moves, cleared };
-    counts::Kept { short, long, hand }
+    let hand = kept.hand.moved();
+    counts::Kept { hand, ..kept }
 }
 
 // Line 27's test, of a head's flags.
@@ -172,35 +160,22 @@ fn demote(dir: &mut [u32], kept: counts::Kept) -> counts::AfterEvict
     requires second_test { SecondTest false dir.old }
     ensures { Demotes Holds dir.old kept dir.new result }
 {
-    let short = kept.short;
-    let long = kept.long;
-    let hand = engine::Hand {
-        moves: kept.hand.moves + 1,
-        cleared: kept.hand.cleared,
-    };
+    let hand = kept.hand.moved();
     if targets::t1_at_target(dir) {
         let page = demote_head(dir, lists::T1);
-        let out = engine::Evicted {
-            page,
-            list: 1,
-            hand,
-        };
+        let list = 1;
         counts::AfterEvict {
-            out,
-            short: counts::ShortCount(short.0 - 1),
-            long,
+            out: engine::Evicted { page, list, hand },
+            short: counts::ShortCount(kept.short.0 - 1),
+            long: kept.long,
         }
     } else {
         let page = demote_head(dir, lists::T2);
-        let out = engine::Evicted {
-            page,
-            list: 2,
-            hand,
-        };
+        let list = 2;
         counts::AfterEvict {
-            out,
-            short,
-            long: counts::LongCount(long.0 - 1),
+            out: engine::Evicted { page, list, hand },
+            short: kept.short,
+            long: counts::LongCount(kept.long.0 - 1),
         }
     }
 }
@@ -211,14 +186,11 @@ pub fn evict(dir: &mut [u32]) -> counts::AfterEvict
     ensures { EvictedWithCounts Holds (Cart.evict (decode dir.old)) result dir.new }
 {
     let n = dir[header::T1_LENGTH] + dir[header::T2_LENGTH];
-    let longs = search::count(dir, header::ENTRIES, lists::wide(n), flags::LONG);
+    let longs = search::count(dir, header::ENTRIES, n as usize, flags::LONG);
     let kept = counts::Kept {
         short: counts::ShortCount(n - longs),
         long: counts::LongCount(longs),
-        hand: engine::Hand {
-            moves: 0,
-            cleared: 0,
-        },
+        hand: engine::Hand::default(),
     };
     let kept = first_pass(dir, kept);
     let kept = second_pass(dir, kept);
@@ -229,10 +201,11 @@ pub fn evict(dir: &mut [u32]) -> counts::AfterEvict
 fn oldest(q: u32, k1: u32, k2: u32) -> usize
     ensures { (name_of result ≡ oldest_of q k1 k2) × (2 ≤ result) × (result ≤ 3) }
 {
-    if q < k1 {
-        return lists::B1;
+    if q < k1 || k2 == 0 {
+        lists::B1
+    } else {
+        lists::B2
     }
-    if k2 == 0 { lists::B1 } else { lists::B2 }
 }
 
 // Lines 6 to 10, for a page in neither history.
@@ -250,7 +223,7 @@ fn trim(dir: &mut [u32])
 }
 
 // Lines 6 to 20: the page from B1, from B2, or new; the answer's kind.
-fn place(dir: &mut [u32], page: u32, short: counts::ShortCount, long: counts::LongCount) -> u32
+fn place(dir: &mut [u32], page: u32, short: counts::ShortCount, long: counts::LongCount) -> Kind
     requires freed { Freed dir.old }
     requires counts_fit { CountsFit dir.old short long }
     ensures { Places Holds page short long dir.old result dir.new }
@@ -262,13 +235,13 @@ fn place(dir: &mut [u32], page: u32, short: counts::ShortCount, long: counts::Lo
         flags: flags::NEW_LONG,
     };
     let kind = returning::come_back(dir, page, to);
-    if kind == kinds::FROM_B2 {
-        raise(dir, short);
-        return kind;
-    }
-    if kind == kinds::NEW {
-        trim(dir);
-        lists::place_new(dir, page);
+    match kind {
+        Kind::FromB2 => raise(dir, short),
+        Kind::New => {
+            trim(dir);
+            lists::place_new(dir, page);
+        }
+        _ => {}
     }
     kind
 }

@@ -14,8 +14,10 @@ use Rattle.figures.specs.Policy.{clock_policy}
 use Rattle.laws.proofs.Lists.{empty}
 use Rattle.laws.proofs.Repeats.{ends_once, leads_to_end}
 use Rattle.laws.proofs.Classics.{Forgot, clock_stops, clock_forgets}
+use Rattle.engine.specs.declared.Hand.{Hand as Counted}
 use Rattle.engine.specs.declared.Evicted.{Evicted}
-use Rattle.engine.specs.Shown.{Makes, EvictedAs, PlacedAs}
+use Rattle.engine.specs.declared.kinds.Kind.{Kind}
+use Rattle.engine.specs.Shown.{Makes, EvictedAs, PlacedAs, moved_once}
 use Rattle.engine.specs.Heads.{front_of}
 use Rattle.engine.proofs.Heads.{some_front}
 use Rattle.engine.proofs.Placed.{placed_new}
@@ -34,11 +36,11 @@ module _ {w : List ℕ} (f : FullQueue w) where
   forgot : Forgot (decode w) z
   forgot = clock_forgets (decode w) (held f).shared (own f) (held f).full
 
-  -- The hand has cleared so many bits, and the head's page is answered, list 1 and a move more.
-  pub evicted_as : {v v' : List ℕ} (out : Evicted) → Passed w out.hand.cleared v → ListHeadDropped 0 v v'
-      → out.page ≡ get_or v 8 0 → out.list ≡ 1 → out.hand.moves ≡ out.hand.cleared + 1
+  -- The hand has counted k, and the head's page is answered, list 1 and a move more.
+  pub evicted_as : {v v' : List ℕ} {k : Counted} (out : Evicted) → Passed w k v → ListHeadDropped 0 v v'
+      → out.page ≡ get_or v 8 0 → out.list ≡ 1 → out.hand ≡ moved_once k
       → EvictedAs Holds z out v'
-  evicted_as {v} {v'} out p dropped page list moves =
+  evicted_as {v} {v'} out p dropped page list moved =
       let l = p.led in
       let d = l.at.dir in
       let e = front_of d.t1 in
@@ -50,7 +52,7 @@ module _ {w : List ℕ} (f : FullQueue w) where
       (record {
         page_is = page ∙ page_read {i = 0} (omega arith) (some l) refl d l.shown;
         list_is = list;
-        counts = omega (arith, l.moves_are, l.cleared_are);
+        counts = rw moved (omega (arith, l.counts));
         shown = dropped d l.shown (omega (arith, l.queue));
       })
 
@@ -62,7 +64,7 @@ module _ {w : List ℕ} (f : FullQueue w) where
         (record { one_fits = omega (arith, (held f).full, o.one_less, forgot.own); same_c = o.same_c })
         (held f).shared.bounds.of_c.c_most
 
-    pub placed_as_new : (x : ℕ) {v' : List ℕ} → Makes Holds (place_new x) v v' → PlacedAs Holds clock_policy x z 2 v'
+    pub placed_as_new : (x : ℕ) {v' : List ℕ} → Makes Holds (place_new x) v v' → PlacedAs Holds clock_policy x z Kind.New v'
     unfolding trim
     placed_as_new x makes =
         placed_new Holds clock_policy x z (rw (empty z.dir.b1 (omega (arith, forgot.own))))

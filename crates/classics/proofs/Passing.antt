@@ -18,6 +18,8 @@ use Rattle.laws.proofs.Encoding.{decoded}
 use Rattle.laws.proofs.Facts.{AloneFacts}
 use Rattle.laws.proofs.Soundness.{alone_iff}
 use Rattle.laws.proofs.Repeats.{leads_on}
+use Rattle.engine.specs.declared.Hand.{Hand as Counted}
+use Rattle.engine.specs.Shown.{turned_once}
 use Rattle.engine.specs.Heads.{front_of}
 use Rattle.engine.proofs.Heads.{some_front}
 use Rattle.entries.specs.Holds.{Holds}
@@ -37,24 +39,24 @@ module _ {w : List ℕ} (f : FullQueue w) where
   pub own : AloneFacts (decode w)
   own = (alone_iff (decode w)).0 (subst (λ (l : List ℕ). alone_sound l ≡ true) (sym held.is) f.is_alone)
 
-  pub begins : Led w 0 w
-  begins = record {
+  pub begins : {k : Counted} → (k.moves ≡ 0) × (k.cleared ≡ 0) → Led w k w
+  begins none = record {
     at = _;
     leads = here;
     shown = held.is;
-    moves_are = refl;
-    cleared_are = refl;
+    counts = record { moves_is = none.0; cleared_is = none.1 };
+    all_cleared = omega arith;
     queue =
         omega (arith, held.shared.bounds, held.full, own, total_at_most bits 1 bits_at_most_one (decode w).t1);
   }
 
 -- The repeat is led on by one look, with a set bit less.
-pub record LedOn (w : List ℕ) (moves : ℕ) (v v' : List ℕ) : Type 0 where
-  pub led : Led w (moves + 1) v'
+pub record LedOn (w : List ℕ) (k : Counted) (v v' : List ℕ) : Type 0 where
+  pub led : Led w (turned_once k) v'
   pub fewer : total bits (decode v').t1 < total bits (decode v).t1
 
 -- Between two looks.
-module _ {w v : List ℕ} {moves : ℕ} (l : Led w moves v) where
+module _ {w v : List ℕ} {k : Counted} (l : Led w k v) where
   abbrev d : Directory
   d = l.at.dir
 
@@ -72,7 +74,7 @@ module _ {w v : List ℕ} {moves : ℕ} (l : Led w moves v) where
     bit_is : bit ≡ (front_of d.t1).bit
     bit_is = says (front_of d.t1) (flags_read {i = 0} (omega arith) some refl d l.shown)
 
-    pub passed : bit ≡ false → Passed w moves v
+    pub passed : bit ≡ false → Passed w k v
     passed is = record { led = l; clear = sym bit_is ∙ is }
 
     module _ {f : ℕ} {v' : List ℕ} (is : bit ≡ true) (becomes : Becomes cleared (get_or v 9 0) f)
@@ -101,14 +103,14 @@ module _ {w v : List ℕ} {moves : ℕ} (l : Led w moves v) where
             total_tail bits es (cleared e),
           )
 
-      pub led_on : LedOn w moves v v'
+      pub led_on : LedOn w k v v'
       led_on = record {
         led = record {
           at = next;
           leads = leads_on l.leads (rw (front, set));
           shown = shown_next;
-          moves_are = omega (arith, l.moves_are);
-          cleared_are = omega (arith, l.cleared_are, set_bits e set);
+          counts = omega (arith, l.counts, set_bits e set);
+          all_cleared = omega (arith, l.all_cleared);
           queue = omega (arith, l.queue, counted);
         };
         fewer = rw (decoded next.dir shown_next, decoded d l.shown) (omega (arith, counted));

@@ -8,6 +8,8 @@ use Rattle.figures.specs.Words.{decode, size, n_t1, n_t2}
 use Rattle.figures.specs.Hand.{Hand, begin, Leads}
 use Rattle.figures.specs.Classics.{alone_sound, renew, clock_look}
 use Rattle.figures.specs.Sound.{SizeBounds, sound}
+use Rattle.engine.specs.declared.Hand.{Hand as Counted}
+use Rattle.engine.specs.Shown.{Counts}
 use Rattle.engine.specs.Heads.{front_of}
 use Rattle.entries.specs.Holds.{Holds}
 use Rattle.entries.specs.Stretches.{index}
@@ -29,17 +31,17 @@ pub record Queue (d : Directory) (moves : ℕ) : Type 0 where
   pub others_empty : ∣ d.t2 ∣ + remembered d ≡ 0
   pub left : moves + total bits d.t1 ≤ d.c
 
--- CLOCK's looks have led from the directory that the words w hold to a hand that the words w' show; each of its moves
--- has cleared a bit.
-pub record Led (w : List ℕ) (moves : ℕ) (w' : List ℕ) : Type 0 where
+-- CLOCK's looks have led from the directory that the words w hold to a hand that the words w' show, which has counted k:
+-- each of its moves has cleared a bit.
+pub record Led (w : List ℕ) (k : Counted) (w' : List ℕ) : Type 0 where
   pub at : Hand
   pub leads : Leads clock_look (begin 0 0 (decode w)) at
   pub shown : Holds at.dir w'
-  pub moves_are : moves ≡ at.moves
-  pub cleared_are : moves ≡ at.cleared
-  pub queue : Queue at.dir moves
+  pub counts : Counts at k
+  pub all_cleared : k.cleared ≡ k.moves
+  pub queue : Queue at.dir k.moves
 
 -- They have led to a head whose bit is clear.
-pub record Passed (w : List ℕ) (moves : ℕ) (w' : List ℕ) : Type 0 where
-  pub led : Led w moves w'
+pub record Passed (w : List ℕ) (k : Counted) (w' : List ℕ) : Type 0 where
+  pub led : Led w k w'
   pub clear : (front_of led.at.dir.t1).bit ≡ false

@@ -12,7 +12,7 @@ ghost use Rattle.entries.specs.Holds.{Holds};
 ghost use Rattle.entries.specs.Stretches.{Room};
 ghost use Rattle.classics.specs.Queues.{FullQueue, Renewed, Passed};
 
-use engine::kinds;
+use engine::kinds::Kind;
 use entries::{flags, header, lists, stretch};
 
 // LRU's hit: entry k of T1 becomes its tail, as it is.
@@ -27,18 +27,18 @@ pub fn renew(dir: &mut [u32], k: usize)
     stretch::to_end(dir, at, end, f);
 }
 
-// CLOCK's hand: heads with bit 1 go to the tail, bit 0. How many they were.
-fn pass(dir: &mut [u32]) -> u32
+// CLOCK's hand: heads with bit 1 go to the tail, bit 0. What it has counted then.
+fn pass(dir: &mut [u32]) -> engine::Hand
     requires { FullQueue dir.old }
     ensures { Passed dir.old result dir.new }
 {
-    let mut turns = 0u32;
+    let mut hand = engine::Hand::default();
     while flags::bit(dir[header::ENTRIES + 1]) {
         let f = flags::cleared(dir[header::ENTRIES + 1]);
         lists::move_head(dir, lists::T1, lists::T1, f);
-        turns += 1;
+        hand = hand.turned();
     }
-    turns
+    hand
 }
 
 // The head whose bit is clear is evicted and forgotten.
@@ -46,16 +46,11 @@ fn evict(dir: &mut [u32]) -> engine::Evicted
     requires { FullQueue dir.old }
     ensures { EvictedAs Holds (clock_evict (decode dir.old)) result dir.new }
 {
-    let cleared = pass(dir);
+    let hand = pass(dir).moved();
     let page = dir[header::ENTRIES];
     lists::drop_head(dir, lists::T1);
-    let moves = cleared + 1;
-    let hand = engine::Hand { moves, cleared };
-    engine::Evicted {
-        page,
-        list: 1,
-        hand,
-    }
+    let list = 1;
+    engine::Evicted { page, list, hand }
 }
 
 // A miss in a full cache: the page is new, since none is remembered.
@@ -66,5 +61,5 @@ pub fn miss(dir: &mut [u32], page: u32) -> engine::Served
 {
     let out = evict(dir);
     lists::place_new(dir, page);
-    engine::answer_of(kinds::NEW, out)
+    engine::answer_of(Kind::New, out)
 }

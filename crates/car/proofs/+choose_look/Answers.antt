@@ -11,7 +11,7 @@ look-choose-requires t c =
     let turned : Turned c.args.dir.now c.args.hand c.move_head.new.dir =
     look_again p.turning p.i_chosen.0 p.i_chosen.1 c.start_of-at.ensures c.bit.result c.bit.ensures
     c.if-bit.true c.cleared.ensures c.move_head.ensures in
-    (omega (arith, turned.fewer), (room turned.on.turning, turned.on.turning))
+    (omega (arith, turned.fewer), (room turned.on.turning, rw c.turned.ensures turned.on.turning))
 
 pub look-returns-then-bit : goal.look-returns-then-bit
 look-returns-then-bit t c =
@@ -19,11 +19,12 @@ look-returns-then-bit t c =
     let turned : Turned c.args.dir.now c.args.hand c.move_head.new.dir =
     look_again p.turning p.i_chosen.0 p.i_chosen.1 c.start_of-at.ensures c.bit.result c.bit.ensures
     c.if-bit.true c.cleared.ensures c.move_head.ensures in
-    looks_after p.some_left turned.on c.choose.result c.choose.new.dir c.choose.ensures
+    looks_after p.some_left turned.on c.choose.result c.choose.new.dir (rw c.turned.ensures at c.choose.ensures)
 
 pub look-returns-else-bit : goal.look-returns-else-bit
 look-returns-else-bit t c =
-    let p = c.requires in (
+    let p = c.requires in
+    rw c.moved-hand.ensures (
       look_stops p.turning p.i_chosen.0 p.i_chosen.1 c.start_of-at.ensures c.bit.result c.bit.ensures
           c.if-bit.false c.demoted.ensures c.move_head-else-bit.ensures,
       omega (arith, p.some_left),

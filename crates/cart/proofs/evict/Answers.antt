@@ -1,6 +1,6 @@
 -- The counts at the start are those of T1 and T2, and both passes end at the definition's hands.
 -- The demotion is of the last one.
-use Rattle.std.proofs.Common.{◌≡◌, List, ℕ, ◌+◌, sym, ◌∙◌, arith}
+use Rattle.std.proofs.Common.{◌≡◌, List, ℕ, ◌+◌, refl, sym, ◌∙◌, arith}
 use Rattle.figures.specs.Entry.{total}
 use Rattle.figures.specs.Words.{n_t1, n_t2}
 use Rattle.figures.specs.Cart.{evict}
@@ -31,7 +31,7 @@ first_pass-kept-requires-clause-room c = (filled c.requires).room
 
 pub first_pass-kept-requires-clause-passing : goal.first_pass-kept-requires-clause-passing
 first_pass-kept-requires-clause-passing c =
-    begins_passing c.requires (counts c.count-longs.ensures c.wide.ensures)
+    begins_passing c.requires (counts c.count-longs.ensures refl) c.default.ensures
 
 pub second_pass-kept-requires-clause-room : goal.second_pass-kept-requires-clause-room
 second_pass-kept-requires-clause-room c = passing_room c.first_pass-kept.ensures.passing
@@ -42,6 +42,6 @@ demote-requires-clause-room c = passing_room c.second_pass-kept.ensures.0.passin
 pub returns : goal.returns
 unfolding evict
 returns c =
-    let shown = begins_shown c.requires (counts c.count-longs.ensures c.wide.ensures) in
+    let shown = begins_shown c.requires (counts c.count-longs.ensures refl) c.default.ensures in
     c.demote.ensures _
     (passes_end (stops c.requires) shown c.first_pass-kept.ensures.ends c.second_pass-kept.ensures.0.ends)

@@ -59,12 +59,6 @@ raise-requires-clause-raisable c =
     let p = (moved i.passing i.of_head c.bit.ensures c.loop-f-test.true c.t2_head_to_t1.ensures).between in
     omega (arith, p.accounts, counts_cached p.accounts, passing_header p)
 
-pub overflow_add-hand : goal.overflow_add-hand
-overflow_add-hand c = omega (arith, c.loop-f.invariant.passing.accounts)
-
-pub overflow_add-hand-in-loop-f : goal.overflow_add-hand-in-loop-f
-overflow_add-hand-in-loop-f c = omega (arith, c.loop-f.invariant.passing.accounts)
-
 pub head_flags-f-requires-in-loop-f-clause-room : goal.head_flags-f-requires-in-loop-f-clause-room
 head_flags-f-requires-in-loop-f-clause-room c =
     let i = c.loop-f.invariant in
@@ -75,13 +69,14 @@ pub loop-f-smaller : goal.loop-f-smaller
 loop-f-smaller c =
     let i = c.loop-f.invariant in
     let l = looked i.passing i.of_head c.bit.ensures c.loop-f-test.true c.t2_head_to_t1.ensures c.raise.ensures in
-    omega (arith, l.passing.accounts.left)
+    rw c.turned-now.ensures (omega (arith, l.passing.accounts.left))
 
 pub loop-f-preserved : goal.loop-f-preserved
 loop-f-preserved c =
     let i = c.loop-f.invariant in
     let l = looked i.passing i.of_head c.bit.ensures c.loop-f-test.true c.t2_head_to_t1.ensures c.raise.ensures in
-    record { passing = l.passing; underway = goes-on i.underway l; of_head = c.head_flags-f-in-loop-f.ensures }
+    rw c.turned-now.ensures
+    (record { passing = l.passing; underway = goes-on i.underway l; of_head = c.head_flags-f-in-loop-f.ensures })
 
 pub returns : goal.returns
 returns c =

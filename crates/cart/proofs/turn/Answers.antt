@@ -75,18 +75,20 @@ returns-then-becomes_long c =
     let long = lengthens_is h c.becomes_long.ensures c.if-becomes_long.true in
     let both = λ (d : Directory) (is : Holds d c.args.dir.now). is_short_and_long_enough (front_of d.t1) d (long d is) in
     let made = λ (e : Entry) (is : c.args.f ≡ flags e). c.made_long.ensures (cleared e) (c.cleared-plain.ensures e is) in
-    (look_makes_long c.requires.passing (λ d is. (set d is, (both d is).0)) (λ d is. (both d is).1)
+    rw c.turned-hand.ensures
+    ((look_makes_long c.requires.passing (λ d is. (set d is, (both d is).0)) (λ d is. (both d is).1)
     (head_made h 0 (λ e. made_long (cleared e)) (λ e. refl) made c.move_head.ensures)
-    ).looked c.move_head.new.dir (λ d is. is)
+    ).looked c.move_head.new.dir (λ d is. is))
 
 pub returns-then-bit : goal.returns-then-bit
 returns-then-bit c =
     let h = c.requires.head_flags in
     let short = lengthens_is h c.becomes_long.ensures c.if-becomes_long.false in
-    (look_goes_round c.requires.passing (bit_is h c.bit.ensures c.if-bit.true)
+    rw c.turned-hand.ensures
+    ((look_goes_round c.requires.passing (bit_is h c.bit.ensures c.if-bit.true)
     (λ d is filter. rw filter at (short d is))
     (head_made h 0 cleared (λ e. refl) c.cleared-plain.ensures c.move_head-then-bit.ensures)
-    ).looked c.move_head-then-bit.new.dir (λ d is. is)
+    ).looked c.move_head-then-bit.new.dir (λ d is. is))
 
 pub lower-requires : goal.lower-requires
 lower-requires c =
@@ -96,5 +98,6 @@ lower-requires c =
 
 pub returns : goal.returns
 returns c =
-    (settled c.requires.passing c.requires.head_flags c.bit.ensures c.if-bit.false c.cleared-plain.ensures
-    c.move_head-2.ensures).looked c.lower.new.dir c.lower.ensures
+    rw c.moved-hand.ensures
+    ((settled c.requires.passing c.requires.head_flags c.bit.ensures c.if-bit.false c.cleared-plain.ensures
+    c.move_head-2.ensures).looked c.lower.new.dir c.lower.ensures)

@@ -5,7 +5,7 @@ use Rattle.classics.proofs.Forgetting.{evicted_as}
 use Rattle.classics.proofs.evict.Goals as goal
 
 pub drop_head-requires-clause-room : goal.drop_head-requires-clause-room
-drop_head-requires-clause-room c = room c.pass-cleared.ensures.led
+drop_head-requires-clause-room c = room c.pass.ensures.led
 
 pub returns : goal.returns
-returns c = evicted_as c.requires _ c.pass-cleared.ensures c.drop_head.ensures refl refl refl
+returns c = evicted_as c.requires _ c.pass.ensures c.drop_head.ensures refl refl c.moved-hand.ensures
