@@ -1,4 +1,5 @@
 -- What the cursor's answer says of the lines from its place on: a closed line and its end, or none that is closed.
+use Rattle.std.specs.Prelude.{Option, Some, None}
 use mathlib.Core.Path.{◌≡◌, refl, ap, subst, ◌∙◌}
 use mathlib.Core.Bool.{Bool, true, false}
 use mathlib.Core.List.{List}
@@ -7,7 +8,7 @@ use native.Mathlib.Omega.{arith}
 use lib.ListN.{take, drop, length-drop, drop_of_length-le}
 use lib.Seq.{drop-drop}
 use lib.Dec.{ltb}
-use borrow.Author.Tests.{lt-ltb, le-ltb, ltb-true, ltb-false}
+use borrow.Author.Tests.{ltb-true, ltb-false}
 use Rattle.terms.specs.Choice.{∣◌∣}
 use Rattle.terms.proofs.Choice.{by_test}
 use Rattle.text.specs.Bytes.{index_of}
@@ -15,8 +16,6 @@ use Rattle.sheets.specs.Lines.{end, unclosed, line, line_feed, lines}
 use Rattle.sheets.proofs.Places.{place_at_most}
 use Rattle.sheets.proofs.Lines.{lines_closed, lines_unclosed}
 use Rattle.lines.specs.Cursor.{line_at}
-use Rattle.lines.specs.declared.Line.{Line}
-use Rattle.lines.specs.declared.Line.TheVariants.{Closed, Missing}
 
 -- A line from `at` whose line feed stands at `stop`, and the lines behind it.
 pub record ClosedAt (s : List ℕ) (at stop : ℕ) : Type 0 where
@@ -33,12 +32,6 @@ module _ (s : List ℕ) (at : ℕ) where
   -- How far the first line feed is from `at`.
   abbrev far : ℕ
   far = index_of line_feed (drop at s)
-
-  pub is-closed : at + far < ∣ s ∣ → Closed (at + far) ≡ line_at s at
-  is-closed h = rw (lt-ltb (at + far) ∣ s ∣ h)
-
-  pub is_missing : ∣ s ∣ ≤ at + far → Missing ≡ line_at s at
-  is_missing h = rw (le-ltb (at + far) ∣ s ∣ h)
 
   closes : at + far < ∣ s ∣ → ClosedAt s at (at + far)
   closes h =
@@ -64,14 +57,14 @@ module _ (s : List ℕ) (at : ℕ) where
       by false test =
           let past = ltb-false at ∣ s ∣ test in ended past (ap lines (drop_of_length-le s {i = at} past))
 
-  pub closed_line : (stop : ℕ) → line_at s at ≡ Closed stop → ClosedAt s at stop
+  pub closed_line : (stop : ℕ) → line_at s at ≡ Some stop → ClosedAt s at stop
   closed_line stop =
-      by_test (λ (l : Line). l ≡ Closed stop → ClosedAt s at stop) (ltb (at + far) ∣ s ∣)
+      by_test (λ (l : Option ℕ). l ≡ Some stop → ClosedAt s at stop) (ltb (at + far) ∣ s ∣)
       (λ test is. subst (ClosedAt s at) (cc) (closes (ltb-true _ _ test)))
       (λ test is. let never : ◌≡◌ {A = ℕ} 0 1 = cc in absurd (omega arith))
 
-  pub missing_line : line_at s at ≡ Missing → MissingAt s at
+  pub missing_line : line_at s at ≡ None → MissingAt s at
   missing_line =
-      by_test (λ (l : Line). l ≡ Missing → MissingAt s at) (ltb (at + far) ∣ s ∣)
+      by_test (λ (l : Option ℕ). l ≡ None → MissingAt s at) (ltb (at + far) ∣ s ∣)
       (λ test is. let never : ◌≡◌ {A = ℕ} 0 1 = cc in absurd (omega arith))
       (λ test is. lacks (ltb-false _ _ test))

@@ -5,152 +5,91 @@
 ghost use Rattle.std.specs.Prelude.{◌≡◌, ◌-◌, ◌≤◌, length, take, drop};
 ghost use Rattle.sheets.specs.LookUp.{value_in};
 ghost use Rattle.sheets.specs.Refusals.{found_at, on_look_up};
-ghost use Rattle.lines.specs.Cursor.{line_at, SpanOf, refusal};
-ghost use Rattle.lines.specs.Stretch.{Stretch, LookedUp};
+ghost use Rattle.lines.specs.Cursor.{line_at, SpanOf};
+ghost use Rattle.lines.specs.Stretch.{LookedUp};
 
-use terms::{limits, refusals};
+use terms::limits;
+use terms::refusals::Refusal;
+use text::scan;
 
-// The line at a place: closed by the line feed at another, or not there.
-#[derive(Clone, Copy)]
-pub enum Line {
-    Closed(usize),
-    Missing,
-}
-
-// A sheet and the place up to which it is read.
+// A sheet and the place up to which it is read: a form that document 01 names, with the cursor that it asks.
 #[derive(Clone, Copy)]
 pub struct SheetReader<'a> {
     pub sheet: &'a [u8],
     pub at: usize,
 }
 
-// What the look-up hands back: its number, and the part of the sheet, empty beside a refusal.
-#[derive(Clone, Copy)]
-pub struct Found<'a> {
-    pub number: u32,
-    pub part: &'a [u8],
+impl<'a> SheetReader<'a> {
+    // The next line: the reader is taken apart, and the cursor asked.
+    fn next_line(self) -> Option<usize>
+        ensures { result ≡ line_at self.entry.sheet.now self.entry.at }
+    {
+        line_from(self.sheet, self.at)
+    }
 }
 
-// The look-up's number and the place of its part, without the part itself.
+// Where the value of a line stands in its sheet.
 #[derive(Clone, Copy)]
 pub struct Span {
-    pub number: u32,
     pub start: usize,
     pub stop: usize,
 }
 
-// The cursor: the line that starts at this place.
-fn line_from(sheet: &[u8], at: usize) -> Line
+// The cursor: where the line that starts at this place is closed by its line feed.
+fn line_from(sheet: &[u8], at: usize) -> Option<usize>
     ensures { result ≡ line_at sheet.now at }
 {
-    if sheet.len() <= at {
-        return Line::Missing;
-    }
-    let end = text::scan::find(sheet, at, sheet.len(), b'\n');
-    if end < sheet.len() {
-        Line::Closed(end)
-    } else {
-        Line::Missing
-    }
-}
-
-// The next line of a reader: taken apart, and the cursor asked.
-fn next_line<'a>(reader: SheetReader<'a>) -> Line
-    ensures { result ≡ line_at reader.entry.sheet.now reader.entry.at }
-{
-    line_from(reader.sheet, reader.at)
+    let far = scan::find(sheet.get(at..)?, b'\n')?;
+    Some(at + far)
 }
 
 // The same with plain parameters, for callers that hold no reader.
-pub fn line_at(sheet: &[u8], at: usize) -> Line
+pub fn line_at(sheet: &[u8], at: usize) -> Option<usize>
     ensures { result ≡ line_at sheet.now at }
 {
-    next_line(SheetReader { sheet, at })
-}
-
-// A refused look-up's span is empty.
-fn refused(number: u32) -> Span
-    ensures { result ≡ refusal number }
-{
-    Span {
-        number,
-        start: 0,
-        stop: 0,
-    }
+    SheetReader { sheet, at }.next_line()
 }
 
 // The value of the line from `at` to its line feed at `end`: what follows the first `=`.
-fn value_in(sheet: &[u8], at: usize, end: usize) -> Span
+fn value_in(sheet: &[u8], at: usize, end: usize) -> Result<Span, Refusal>
     requires { (at ≤ end) × (end ≤ length sheet.now) }
     ensures { SpanOf sheet.now
         (found_at (value_in at (take (end - at) (drop at sheet.now)))) result }
 {
-    let equals = text::scan::find(sheet, at, end, b'=');
-    if equals < end {
-        Span {
-            number: refusals::ACCEPTED,
-            start: equals + 1,
-            stop: end,
-        }
-    } else {
-        refused(refusals::NO_SUCH_LINE)
-    }
+    let Some(equals) = scan::find(&sheet[at..end], b'=') else {
+        return Err(Refusal::NoSuchLine);
+    };
+    Ok(Span {
+        start: at + equals + 1,
+        stop: end,
+    })
 }
 
-// The look-up's number and place, for callers that want no part; line `n` starts at `at`.
+// Where the look-up's part stands, for callers that want no part: the lines before it are passed, one after another.
 #[tactic(auto, using(crate::proofs::Spans::too_long))]
-pub fn span_of(sheet: &[u8], line: u32) -> Span
+pub fn span_of(sheet: &[u8], line: u32) -> Result<Span, Refusal>
     ensures { SpanOf sheet.now (on_look_up sheet.now line) result }
 {
     if limits::MOST_SHEET_BYTES < sheet.len() {
-        return refused(refusals::SHEET_TOO_LONG);
+        return Err(Refusal::SheetTooLong);
     }
-    let mut n = 1;
     let mut at = 0;
-    while n <= line {
-        let Line::Closed(end) = line_at(sheet, at) else {
-            return refused(refusals::NO_SUCH_LINE);
+    for n in 1..=line {
+        let Some(end) = line_at(sheet, at) else {
+            return Err(Refusal::NoSuchLine);
         };
         if n == line {
             return value_in(sheet, at, end);
         }
         at = end + 1;
-        n += 1;
     }
-    refused(refusals::NO_SUCH_LINE)
+    Err(Refusal::NoSuchLine)
 }
 
-// The part itself: it starts that many bytes on in the caller's slice.
-fn cut(sheet: &[u8], start: usize, stop: usize) -> &[u8]
-    requires { (start ≤ stop) × (stop ≤ length sheet.now) }
-    ensures { Stretch sheet.entry start stop result }
-{
-    &sheet[start..stop]
-}
-
-// The look-up by line number, from 1: the span is found once, and the part is cut by it.
-pub fn look_up<'a>(sheet: &'a [u8], line: u32) -> Found<'a>
+// The look-up by line number, from 1: the part of the caller's slice that starts where the value does.
+pub fn look_up(sheet: &[u8], line: u32) -> Result<&[u8], Refusal>
     ensures { LookedUp sheet.entry line result }
 {
-    let span = span_of(sheet, line);
-    let part = cut(sheet, span.start, span.stop);
-    Found {
-        number: span.number,
-        part,
-    }
-}
-
-// The look-up's part alone, for callers that keep no answer with a reference in it.
-pub fn part_of(sheet: &[u8], line: u32) -> &[u8]
-    ensures { Stretch sheet.entry
-        (on_look_up sheet.now line).start (on_look_up sheet.now line).stop result }
-{
-    look_up(sheet, line).part
-}
-
-// The look-up's number alone, out of its own answer, for callers that keep no answer with a reference in it.
-pub fn number_of(sheet: &[u8], line: u32) -> u32
-    ensures { result ≡ (on_look_up sheet.now line).number }
-{
-    look_up(sheet, line).number
+    let span = span_of(sheet, line)?;
+    Ok(&sheet[span.start..span.stop])
 }
