@@ -1,10 +1,11 @@
-// A line of a council's trace, by its fields. Its answer is an enum, so that the reader takes it apart where it stands:
-// a read with its numbers, a write, or a line that is not in the form. Every line gets one.
+// A line of a council's trace, by its fields: a read with its numbers, or a write; none where it is not in the form.
+// Every line gets an answer, an enum that the reader takes apart where it stands.
 #![tactic(auto)]
 
-ghost use Rattle.std.specs.Prelude.{◌≡◌, ◌≤◌, length};
+ghost use Rattle.std.specs.Prelude.{◌≡◌, MatchOption};
+ghost use Rattle.traces.specs.Fields.{field, last, fields};
 ghost use Rattle.traces.specs.Record.{is_integer, is_timestamp, opcode, record_from, record_of, asked};
-ghost use Rattle.records.specs.Answers.{FieldFrom, opcode_case, up_to_beyond, asked_case};
+ghost use Rattle.records.specs.Answers.{opcode_case, up_to_beyond, asked_case};
 
 use text::digits;
 
@@ -13,32 +14,16 @@ use text::digits;
 pub const BEYOND: u64 = 35184372088832;
 
 // A read with its unit, its LBA and its size, each at most BEYOND.
-#[derive(Clone, Copy)]
+#[derive(Clone, Copy, Debug, PartialEq, Eq)]
 pub enum Record {
     Read(u64, u64, u64),
     Write,
-    NotInForm,
 }
 
-#[derive(Clone, Copy)]
+#[derive(Clone, Copy, Debug, PartialEq, Eq)]
 pub enum Opcode {
     Reads,
     Writes,
-    Unknown,
-}
-
-// A unit as it is asked for.
-#[derive(Clone, Copy)]
-pub enum Asked {
-    Unit(u32),
-    NoUnit,
-}
-
-// The field at a place of the line: closed by the comma at another, or the last.
-#[derive(Clone, Copy)]
-pub enum Field {
-    Closed(usize),
-    Last,
 }
 
 #[tactic(auto, unfolding(traces::specs::Record::is_integer))]
@@ -51,95 +36,78 @@ fn is_integer(text: &[u8]) -> bool
 fn is_timestamp(text: &[u8]) -> bool
     ensures { result ≡ is_timestamp text.now }
 {
-    let n = text::scan::find(text, 0, text.len(), b'.');
-    if n == text.len() {
+    let Some(n) = text::scan::find(text, b'.') else {
         return false;
-    }
+    };
     is_integer(&text[..n]) && is_integer(&text[n + 1..])
 }
 
-fn opcode_of(text: &[u8]) -> Opcode
+fn opcode_of(text: &[u8]) -> Option<Opcode>
     ensures { opcode_case result ≡ opcode text.now }
 {
-    if text::equal(text, b"R") || text::equal(text, b"r") {
-        return Opcode::Reads;
+    match text {
+        b"R" | b"r" => Some(Opcode::Reads),
+        b"W" | b"w" => Some(Opcode::Writes),
+        _ => None,
     }
-    if text::equal(text, b"W") || text::equal(text, b"w") {
-        return Opcode::Writes;
-    }
-    Opcode::Unknown
 }
 
-fn field_from(line: &[u8], at: usize) -> Field
-    requires { at ≤ length line.now }
-    ensures { FieldFrom line.now at result }
+// The first field of a line, where a comma closes it, and what stands behind the comma.
+fn first_field(line: &[u8]) -> Option<(&[u8], &[u8])>
+    ensures { MatchOption result (fields line.now ≡ last line.now)
+        (λ cut. fields line.now ≡ field cut.0.now (fields cut.1.now)) }
 {
-    let end = text::scan::find(line, at, line.len(), b',');
-    if end < line.len() {
-        Field::Closed(end)
-    } else {
-        Field::Last
-    }
+    let n = text::scan::find(line, b',')?;
+    Some((&line[..n], &line[n + 1..]))
 }
 
 // The five fields that a record has to have.
 #[tactic(auto, using(crate::proofs::Integers::integer_digits), unfolding(traces::specs::Record::record_from))]
-fn record_from(unit: &[u8], lba: &[u8], size: &[u8], letter: &[u8], timestamp: &[u8]) -> Record
+fn record_from(
+    unit: &[u8],
+    lba: &[u8],
+    size: &[u8],
+    letter: &[u8],
+    timestamp: &[u8],
+) -> Option<Record>
     ensures { result ≡ up_to_beyond (record_from unit.now lba.now size.now
         letter.now timestamp.now) }
 {
     if !is_integer(unit) || !is_integer(lba) || !is_integer(size) || !is_timestamp(timestamp) {
-        return Record::NotInForm;
+        return None;
     }
-    let is = opcode_of(letter);
-    match is {
-        Opcode::Reads => Record::Read(
+    match opcode_of(letter)? {
+        Opcode::Reads => Some(Record::Read(
             digits::value_at_most(unit, BEYOND),
             digits::value_at_most(lba, BEYOND),
             digits::value_at_most(size, BEYOND),
-        ),
-        Opcode::Writes => Record::Write,
-        Opcode::Unknown => Record::NotInForm,
+        )),
+        Opcode::Writes => Some(Record::Write),
     }
 }
 
-// The record of a line, without its line feed.
-pub fn record_of(line: &[u8]) -> Record
+// The record of a line, without its line feed. The fifth field ends at the next comma or with the line.
+pub fn record_of(line: &[u8]) -> Option<Record>
     ensures { result ≡ up_to_beyond (record_of line.now) }
 {
-    let Field::Closed(unit_end) = field_from(line, 0) else {
-        return Record::NotInForm;
+    let (unit, behind_unit) = first_field(line)?;
+    let (lba, behind_lba) = first_field(behind_unit)?;
+    let (size, behind_size) = first_field(behind_lba)?;
+    let (letter, rest) = first_field(behind_size)?;
+    let timestamp = match first_field(rest) {
+        Some((timestamp, _)) => timestamp,
+        None => rest,
     };
-    let Field::Closed(lba_end) = field_from(line, unit_end + 1) else {
-        return Record::NotInForm;
-    };
-    let Field::Closed(size_end) = field_from(line, lba_end + 1) else {
-        return Record::NotInForm;
-    };
-    let Field::Closed(letter_end) = field_from(line, size_end + 1) else {
-        return Record::NotInForm;
-    };
-    let end = text::scan::find(line, letter_end + 1, line.len(), b',');
-    record_from(
-        &line[..unit_end],
-        &line[unit_end + 1..lba_end],
-        &line[lba_end + 1..size_end],
-        &line[size_end + 1..letter_end],
-        &line[letter_end + 1..end],
-    )
+    record_from(unit, lba, size, letter, timestamp)
 }
 
 // The unit that somebody asks for, in the form of a record's.
 #[tactic(auto, using(crate::proofs::Integers::integer_digits), unfolding(traces::specs::Record::asked))]
-pub fn unit_of(text: &[u8]) -> Asked
+pub fn unit_of(text: &[u8]) -> Option<u32>
     ensures { asked_case result ≡ asked text.now }
 {
     if !is_integer(text) {
-        return Asked::NoUnit;
+        return None;
     }
-    let n = digits::value_at_most(text, BEYOND);
-    if 4294967295 < n {
-        return Asked::NoUnit;
-    }
-    Asked::Unit(n as u32)
+    u32::try_from(digits::value_at_most(text, BEYOND)).ok()
 }
