@@ -30,7 +30,7 @@ abbrev pub line_for : Request → List ℕ
 line_for r = request_line r.request r.page r.kind r.evicted r.list r.moves
 
 -- The count of bytes in the code's answer; none where it is refused.
-abbrev pub count_in : Result ℕ Refusal → ℕ
+abbrev pub count_in : {E : Type 0} → Result ℕ E → ℕ
 count_in (Ok count) = count
 count_in (Err refusal) = 0
 
