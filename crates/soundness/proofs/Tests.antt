@@ -1,5 +1,5 @@
 -- A test's value from what its truth would mean.
--- For the functions that answer false early.
+-- For the functions that answer by `&&`.
 use mathlib.Core.Path.{◌≡◌, refl, sym, ◌∙◌}
 use mathlib.Core.Bool.{Bool, true, false, true≢false}
 use mathlib.Core.List.{[], ◌∷◌}
@@ -9,6 +9,10 @@ use Rattle.terms.specs.Choice.{every}
 pub fails : (b : Bool) → (b ≡ true → ⊥) → false ≡ b
 fails true h = absurd (h refl)
 fails false h = refl
+
+-- No test both fails and holds.
+pub never : {b : Bool} → b ≡ false → b ≡ true → ⊥
+never fails_there holds_there = true≢false (sym holds_there ∙ fails_there)
 
 -- A list of one test.
 pub alone : (b : Bool) → b ≡ every (b ∷ [])

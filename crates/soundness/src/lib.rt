@@ -10,30 +10,23 @@ ghost use Rattle.figures.specs.Policy.{policy_of};
 ghost use Rattle.figures.specs.Sound.{sound};
 ghost use Rattle.soundness.specs.Orderly.{Orderly, sizes_fit, WordsHeld, entries_sound};
 
-use entries::{flags, header, lists, search};
-use terms::policies;
+mod lengths;
+
+use entries::{flags, header, search};
+use lengths::Lengths;
+use terms::policies::Policy;
 
 // p and the four lengths, which may be any numbers.
 fn sizes_fit(dir: &[u32]) -> bool
     requires { Orderly dir.now }
     ensures { result ≡ sizes_fit dir.now }
 {
-    let c = lists::wide(dir[header::SIZE]);
-    let cached = lists::wide(dir[header::T1_LENGTH]) + lists::wide(dir[header::T2_LENGTH]);
-    let remembered = lists::wide(dir[header::B1_LENGTH]) + lists::wide(dir[header::B2_LENGTH]);
-    if entries::UNIT * dir[header::SIZE] < dir[header::P] {
-        return false;
-    }
-    if c < cached {
-        return false;
-    }
-    if c < remembered {
-        return false;
-    }
-    if cached < c {
-        return remembered == 0;
-    }
-    true
+    let n = Lengths::of(dir);
+    let c = dir[header::SIZE] as usize;
+    dir[header::P] <= entries::UNIT * dir[header::SIZE]
+        && n.cached() <= c
+        && n.remembered() <= c
+        && (n.cached() == c || n.remembered() == 0)
 }
 
 // CAR's own rules.
@@ -41,16 +34,10 @@ fn car_sound(dir: &[u32]) -> bool
     requires { WordsHeld dir.now }
     ensures { result ≡ car_sound dir.now }
 {
-    let n1 = lists::wide(dir[header::T1_LENGTH]);
-    let k1 = lists::wide(dir[header::B1_LENGTH]);
-    let all = n1 + lists::wide(dir[header::T2_LENGTH]) + (k1 + lists::wide(dir[header::B2_LENGTH]));
-    if dir[header::Q] != 0 {
-        return false;
-    }
-    if search::count(dir, header::ENTRIES, all, flags::LONG) != 0 {
-        return false;
-    }
-    n1 + k1 <= lists::wide(dir[header::SIZE])
+    let n = Lengths::of(dir);
+    dir[header::Q] == 0
+        && search::count(dir, header::ENTRIES, n.all(), flags::LONG) == 0
+        && n.t1 + n.b1 <= dir[header::SIZE] as usize
 }
 
 // CART's own rules.
@@ -58,22 +45,14 @@ fn cart_sound(dir: &[u32]) -> bool
     requires { WordsHeld dir.now }
     ensures { result ≡ cart_sound dir.now }
 {
-    let n1 = lists::wide(dir[header::T1_LENGTH]);
-    let n2 = lists::wide(dir[header::T2_LENGTH]);
-    let k1 = lists::wide(dir[header::B1_LENGTH]);
-    let k2 = lists::wide(dir[header::B2_LENGTH]);
-    if 2 * dir[header::SIZE] < dir[header::Q] {
-        return false;
-    }
-    if search::count(dir, header::ENTRIES + 2 * n1, n2, flags::LONG) != dir[header::T2_LENGTH] {
-        return false;
-    }
-    if search::count(dir, header::ENTRIES + 2 * (n1 + n2 + k1), k2, flags::LONG)
-        != dir[header::B2_LENGTH]
-    {
-        return false;
-    }
-    search::count(dir, header::ENTRIES + 2 * (n1 + n2), k1, flags::LONG) == 0
+    let n = Lengths::of(dir);
+    let t2 = header::ENTRIES + 2 * n.t1;
+    let b1 = header::ENTRIES + 2 * n.cached();
+    let b2 = b1 + 2 * n.b1;
+    dir[header::Q] <= 2 * dir[header::SIZE]
+        && search::count(dir, t2, n.t2, flags::LONG) == dir[header::T2_LENGTH]
+        && search::count(dir, b2, n.b2, flags::LONG) == dir[header::B2_LENGTH]
+        && search::count(dir, b1, n.b1, flags::LONG) == 0
 }
 
 // What FIFO, CLOCK and LRU share: T1 alone.
@@ -81,19 +60,11 @@ fn alone_sound(dir: &[u32]) -> bool
     requires { WordsHeld dir.now }
     ensures { result ≡ alone_sound dir.now }
 {
-    let n1 = lists::wide(dir[header::T1_LENGTH]);
-    let remembered = lists::wide(dir[header::B1_LENGTH]) + lists::wide(dir[header::B2_LENGTH]);
-    let others = lists::wide(dir[header::T2_LENGTH]) + remembered;
-    if dir[header::P] != 0 {
-        return false;
-    }
-    if dir[header::Q] != 0 {
-        return false;
-    }
-    if others != 0 {
-        return false;
-    }
-    search::count(dir, header::ENTRIES, n1, flags::LONG) == 0
+    let n = Lengths::of(dir);
+    dir[header::P] == 0
+        && dir[header::Q] == 0
+        && n.t2 + n.remembered() == 0
+        && search::count(dir, header::ENTRIES, n.t1, flags::LONG) == 0
 }
 
 // FIFO's and LRU's own rules: the same, and no bit is set.
@@ -101,11 +72,8 @@ fn clear_sound(dir: &[u32]) -> bool
     requires { WordsHeld dir.now }
     ensures { result ≡ clear_sound dir.now }
 {
-    let n1 = lists::wide(dir[header::T1_LENGTH]);
-    if !alone_sound(dir) {
-        return false;
-    }
-    search::count(dir, header::ENTRIES, n1, flags::BIT) == 0
+    let n = Lengths::of(dir);
+    alone_sound(dir) && search::count(dir, header::ENTRIES, n.t1, flags::BIT) == 0
 }
 
 // The own rules of the policy that the directory names.
@@ -113,12 +81,13 @@ fn own_sound(dir: &[u32]) -> bool
     requires { WordsHeld dir.now }
     ensures { result ≡ (policy_of (get_or dir.now 0 0)).own_sound dir.now }
 {
-    let policy = dir[header::POLICY];
-    match policy {
-        policies::CAR => car_sound(dir),
-        policies::CART => cart_sound(dir),
-        policies::CLOCK => alone_sound(dir),
-        _ => clear_sound(dir),
+    match Policy::try_from(dir[header::POLICY]) {
+        Ok(Policy::Car) => car_sound(dir),
+        Ok(Policy::Cart) => cart_sound(dir),
+        Ok(Policy::Clock) => alone_sound(dir),
+        Ok(Policy::Fifo | Policy::Lru) => clear_sound(dir),
+        // Never: the number is a policy's (Orderly).
+        Err(_) => false,
     }
 }
 
@@ -127,15 +96,11 @@ fn entries_sound(dir: &[u32]) -> bool
     requires { WordsHeld dir.now }
     ensures { result ≡ entries_sound dir.now }
 {
-    let cached = lists::wide(dir[header::T1_LENGTH]) + lists::wide(dir[header::T2_LENGTH]);
-    let remembered = lists::wide(dir[header::B1_LENGTH]) + lists::wide(dir[header::B2_LENGTH]);
-    if !differing::pages_differ(dir, cached + remembered) {
-        return false;
-    }
-    if search::count(dir, header::ENTRIES + 2 * cached, remembered, flags::BIT) != 0 {
-        return false;
-    }
-    own_sound(dir)
+    let n = Lengths::of(dir);
+    let b1 = header::ENTRIES + 2 * n.cached();
+    differing::pages_differ(dir, n.all())
+        && search::count(dir, b1, n.remembered(), flags::BIT) == 0
+        && own_sound(dir)
 }
 
 // All of it.
@@ -143,16 +108,9 @@ pub fn is_sound(dir: &[u32]) -> bool
     requires { Orderly dir.now }
     ensures { result ≡ sound dir.now }
 {
-    if !sizes_fit(dir) {
-        return false;
-    }
-    let cached = lists::wide(dir[header::T1_LENGTH]) + lists::wide(dir[header::T2_LENGTH]);
-    let all = cached + (lists::wide(dir[header::B1_LENGTH]) + lists::wide(dir[header::B2_LENGTH]));
-    if !search::flags_known(dir, all) {
-        return false;
-    }
-    if !search::all_zero(dir, header::ENTRIES + 2 * all) {
-        return false;
-    }
-    entries_sound(dir)
+    let n = Lengths::of(dir);
+    sizes_fit(dir)
+        && search::flags_known(dir, n.all())
+        && search::all_zero(dir, header::ENTRIES + 2 * n.all())
+        && entries_sound(dir)
 }

@@ -1,5 +1,6 @@
--- Each failure is one of CAR's rules that does not hold; the count of flag 2 is that of filter L.
+-- CAR's rules in turn; the count of flag 2 is that of filter L.
 use Rattle.std.proofs.Common.{◌≡◌, refl, sym, ◌∙◌, arith}
+use borrow.Author.Tests.{eqb-true, eqb-false}
 use Rattle.figures.specs.Entry.{long, total}
 use Rattle.figures.specs.Directory.{listed}
 use Rattle.figures.specs.Words.{decode}
@@ -7,27 +8,33 @@ use Rattle.figures.specs.Car.{car_sound}
 use Rattle.terms.proofs.Tests.{reads, agree}
 use Rattle.soundness.proofs.Tests.{fails}
 use Rattle.soundness.proofs.Parts.{told, all_stand}
+use Rattle.soundness.proofs.car_sound.Goals.{then-dir-eq0, else-dir-eq0}
 use Rattle.soundness.proofs.car_sound.Goals as goal
 
-pub returns-then-dir-ne0 : goal.returns-then-dir-ne0
+pub returns-then-count-eq0 : goal.returns-then-count-eq0
 unfolding car_sound
-returns-then-dir-ne0 c = fails _ (λ h. let said = simp reads at h in c.if-dir-ne0.true said.0)
+returns-then-count-eq0 c =
+    elim c.if-dir-eq0.branch [
+      | then-dir-eq0 w ↦
+          let ones : w.count.result ≡ total long (listed (decode c.args.dir.now)) =
+          told (all_stand c.requires) w.count.ensures.1 (omega arith) (omega arith) in
+          let none_long = sym ones ∙ eqb-true _ 0 (sym w.value-is ∙ c.if-count-eq0.true) in
+          agree
+          _
+          _
+          (λ h. let said = simp reads at h in simp reads (w.if-dir-eq0.true, (none_long, (omega arith, refl))))
+          (λ h. let said = simp reads at h in simp reads (omega arith))
+      | else-dir-eq0 w ↦ absurd (w.if-dir-eq0.false (eqb-true _ 0 (sym w.value-is ∙ c.if-count-eq0.true)))
+    ]
 
-pub returns-then-count-ne0 : goal.returns-then-count-ne0
+pub returns-else-count-eq0 : goal.returns-else-count-eq0
 unfolding car_sound
-returns-then-count-ne0 c =
-    let ones : c.count.result ≡ total long (listed (decode c.args.dir.now)) =
-    told (all_stand c.requires) c.count.ensures.1 (omega arith) (omega arith) in
-    fails _ (λ h. let said = simp reads at h in c.if-count-ne0.true (ones ∙ said.1.0))
-
-pub returns : goal.returns
-unfolding car_sound
-returns c =
-    let ones : c.count.result ≡ total long (listed (decode c.args.dir.now)) =
-    told (all_stand c.requires) c.count.ensures.1 (omega arith) (omega arith) in
-    let none_long = sym ones ∙ c.if-count-ne0.false in
-    agree
-    _
-    _
-    (λ h. let said = simp reads at h in simp reads (c.if-dir-ne0.false, (none_long, (omega arith, refl))))
-    (λ h. let said = simp reads at h in simp reads (omega arith))
+returns-else-count-eq0 c =
+    c.if-count-eq0.false
+    ∙ elim c.if-dir-eq0.branch [
+      | then-dir-eq0 w ↦
+          let ones : w.count.result ≡ total long (listed (decode c.args.dir.now)) =
+          told (all_stand c.requires) w.count.ensures.1 (omega arith) (omega arith) in
+          fails _ (λ h. let said = simp reads at h in eqb-false _ 0 (sym w.value-is ∙ c.if-count-eq0.false) (ones ∙ said.1.0))
+      | else-dir-eq0 w ↦ fails _ (λ h. let said = simp reads at h in w.if-dir-eq0.false said.0)
+    ]
