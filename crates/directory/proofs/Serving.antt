@@ -1,4 +1,5 @@
 -- One request of a sound directory in the words: what each way through `serve` comes to.
+use Rattle.std.specs.Prelude.{Some, None}
 use mathlib.Core.Path.{◌≡◌, refl, sym, ap, ◌∙◌, subst, subst⁻¹}
 use mathlib.Core.Bool.{true, false, ◌||◌}
 use mathlib.Core.List.{List, ◌++◌}
@@ -19,13 +20,14 @@ use Rattle.laws.proofs.Soundness.{facts_of_words}
 use Rattle.laws.proofs.Requests.{serve_hit, serve_room, serve_full}
 use Rattle.laws.proofs.Kept.{request_keeps}
 use Rattle.engine.specs.declared.Served.{Served as Answered}
-use Rattle.engine.specs.Shown.{Tells}
+use Rattle.engine.specs.declared.kinds.Kind.{Kind}
+use Rattle.engine.specs.Shown.{number_of, Tells}
 use Rattle.entries.specs.Holds.{Holds}
 use Rattle.entries.specs.Stretches.{index}
 use Rattle.entries.specs.Leaves.{FoundAt}
 use Rattle.entries.proofs.Laid.{Header, header}
 use Rattle.entries.proofs.Reading.{told, cache_held}
-use Rattle.entries.proofs.Indexes.{index_has, index_lacks, has_append}
+use Rattle.entries.proofs.Indexes.{has_append}
 use Rattle.directory.specs.Ready.{still_of, evicting, Ready}
 
 pub ready : (w : List ℕ) → sound w ≡ true → Ready w
@@ -74,36 +76,41 @@ module _ {w : List ℕ} (r : Ready w) where
     tells_as {a = a} {w' = w'} e told =
         let all = subst⁻¹ (λ (s : Served). Tells Holds s a w') e told in (all, ready_again x w' all.shown)
 
-    still_told : (kind : ℕ) (d' : Directory) {w' : List ℕ} → Holds d' w' → Tells Holds (still kind d') (still_of kind) w'
+    still_told : (kind : Kind) (d' : Directory) {w' : List ℕ} → Holds d' w'
+        → Tells Holds (still (number_of kind) d') (still_of kind) w'
     still_told kind d' is =
         record { kind_is = refl; page_is = refl; list_is = refl; moves_is = refl; cleared_is = refl; shown = is }
 
-    -- the page's place in T1 and T2, as `find` gives it
-    module _ {n k : ℕ} (found : FoundAt w 8 n x k) (all : n ≡ n_t1 w + n_t2 w) where
+    -- what `find` says of T1 and T2
+    module _ {n : ℕ} (all : n ≡ n_t1 w + n_t2 w) where
       length_cache : ∣ d.t1 ++ d.t2 ∣ ≡ n
       length_cache = length-append d.t1 d.t2 ∙ omega (arith, held)
 
-      pub place : k ≡ index x (d.t1 ++ d.t2)
-      place = told (cache_held d w words_held) found.1 refl length_cache
+      -- the page is there,
+      module _ {k : ℕ} (found : FoundAt w 8 n x (Some k)) where
+        there : (has x (d.t1 ++ d.t2) ≡ true) × (k ≡ index x (d.t1 ++ d.t2))
+        there = told (cache_held d w words_held) found.1 refl length_cache
 
-      pub tells_hit : {w' : List ℕ} → k < n → Holds ((policy_of d.policy).hit x d) w' → TellsRequest (still_of 0) w'
-      tells_hit inside is =
-          let there = index_has x (d.t1 ++ d.t2) (omega (arith, place, length_cache)) in
-          let cached = sym (has_append x d.t1 d.t2) ∙ there in
-          tells_as (serve_hit (policy_of d.policy) x d cached) (still_told 0 _ is)
+        pub place : k ≡ index x (d.t1 ++ d.t2)
+        place = there.1
 
-      missed_cache : n ≤ k → has x d.t1 || has x d.t2 ≡ false
-      missed_cache outside =
-          sym (has_append x d.t1 d.t2) ∙ index_lacks x (d.t1 ++ d.t2) (omega (arith, place, length_cache))
+        pub tells_hit : {w' : List ℕ} → Holds ((policy_of d.policy).hit x d) w' → TellsRequest (still_of Kind.Hit) w'
+        tells_hit is =
+            let cached = sym (has_append x d.t1 d.t2) ∙ there.0 in
+            tells_as (serve_hit (policy_of d.policy) x d cached) (still_told Kind.Hit _ is)
 
-      pub tells_room : {w' : List ℕ} → n ≤ k → n < size w → Holds (place_new x d) w' → TellsRequest (still_of 1) w'
-      tells_room outside free is =
-          let room = ne_eqb (cached d) d.c (λ e. omega (arith, held)) in
-          tells_as (serve_room (policy_of d.policy) x d (missed_cache outside) room)
-          (still_told 1 (place_new x d) is)
+      -- or nowhere
+      module _ (none : FoundAt w 8 n x None) where
+        missed_cache : has x d.t1 || has x d.t2 ≡ false
+        missed_cache = sym (has_append x d.t1 d.t2) ∙ told (cache_held d w words_held) none refl length_cache
 
-      pub tells_full : n ≤ k → size w ≤ n → {a : Answered} {w' : List ℕ} → Tells Holds (evicting x d) a w'
-          → TellsRequest a w'
-      tells_full outside full told =
-          let is-full = eq-eqb (cached d) d.c (omega (arith, held, r.cache_fits)) in
-          tells_as (serve_full (policy_of d.policy) x d (missed_cache outside) is-full) told
+        pub tells_room : {w' : List ℕ} → n < size w → Holds (place_new x d) w' → TellsRequest (still_of Kind.WithRoom) w'
+        tells_room free is =
+            let room = ne_eqb (cached d) d.c (λ e. omega (arith, held)) in
+            tells_as (serve_room (policy_of d.policy) x d missed_cache room)
+            (still_told Kind.WithRoom (place_new x d) is)
+
+        pub tells_full : size w ≤ n → {a : Answered} {w' : List ℕ} → Tells Holds (evicting x d) a w' → TellsRequest a w'
+        tells_full full told =
+            let is-full = eq-eqb (cached d) d.c (omega (arith, held, r.cache_fits)) in
+            tells_as (serve_full (policy_of d.policy) x d missed_cache is-full) told

@@ -9,6 +9,7 @@ use Rattle.figures.specs.Request.{answer, missed, request}
 use Rattle.figures.specs.Run.{noted, run}
 use Rattle.tally.specs.declared.Tally.{Tally}
 use Rattle.engine.specs.declared.Served.{Served}
+use Rattle.engine.specs.declared.kinds.Kind.{Kind}
 use Rattle.tally.specs.Note.{defined}
 use Rattle.entries.specs.Holds.{Holds}
 use Rattle.entries.specs.Stretches.{index}
@@ -16,7 +17,7 @@ use Rattle.figures.specs.Words.{encode, decode, size, n_t1, n_t2, n_b1, n_b2}
 use Rattle.figures.specs.Sound.{SizeBounds, sound}
 
 -- An answer of this kind that evicts nothing.
-abbrev pub still_of : ℕ → Served
+abbrev pub still_of : Kind → Served
 still_of kind = record { kind = kind; page = 0; list = 0; moves = 0; cleared = 0 }
 
 -- A hit on entry k of T1 and T2, which is for page x, under the policy that the directory names.

@@ -3,4 +3,4 @@ use Rattle.directory.proofs.Refused.{accepted_ready}
 use Rattle.directory.proofs.request.Goals as goal
 
 pub serve-served-requires : goal.serve-served-requires
-serve-served-requires c = accepted_ready _ _ c.check-number.ensures c.if-number-ne-ACCEPTED.false
+serve-served-requires c = accepted_ready _ c.in_ok-check.ensures

@@ -3,4 +3,4 @@ use Rattle.directory.proofs.Refused.{accepted_ready}
 use Rattle.directory.proofs.run.Goals as goal
 
 pub replay-requires-clause-ready : goal.replay-requires-clause-ready
-replay-requires-clause-ready c = accepted_ready _ _ c.check-number.ensures c.if-number-ne-ACCEPTED.false
+replay-requires-clause-ready c = accepted_ready _ c.in_ok-check.ensures
