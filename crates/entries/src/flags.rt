@@ -28,31 +28,31 @@ pub fn counts(f: u32, flag: u32) -> u32
 pub fn bit(f: u32) -> bool
     ensures { Says (λ e. e.bit) f result }
 {
-    counts(f, BIT) == 1
+    f & BIT != 0
 }
 
 pub fn long(f: u32) -> bool
     ensures { Says (λ e. is_long e.filter) f result }
 {
-    counts(f, LONG) == 1
+    f & LONG != 0
 }
 
 pub fn marked(f: u32) -> u32
     ensures { Becomes marked f result }
 {
-    f + (BIT - f % 2)
+    f | BIT
 }
 
 pub fn cleared(f: u32) -> u32
     ensures { Becomes cleared f result }
 {
-    f - f % 2
+    f & !BIT
 }
 
 pub fn made_long(f: u32) -> u32
     ensures { Becomes made_long f result }
 {
-    f + LONG * (1 - f / LONG % 2)
+    f | LONG
 }
 
 pub fn demoted(f: u32) -> u32
