@@ -10,16 +10,16 @@ use Rattle.traces.specs.Trace.{yields, Pages, taken, refused_at, onto, pages_fro
 use Rattle.terms.proofs.Rows.{numbers_length}
 use Rattle.result.specs.Put.{Put}
 use Rattle.result.proofs.Putting.{both}
-use Rattle.council.specs.Answers.{LineRead, size_of}
-use Rattle.council.specs.declared.record_lines.Reading.{Reading}
-use Rattle.council.specs.declared.Listed.{Listed}
+use Rattle.std.specs.Prelude.{Ok}
+use Rattle.council.specs.Answers.{LineRead, Size, amount, refuses, size_of}
+use Rattle.council.specs.declared.record_lines.Yielded.{Yielded}
 
 -- THE COUNT
 
 -- What n pages before them add to what lines come to.
-abbrev pub after : ℕ → Listed → Listed
-after n (Listed.Pages count) = Listed.Pages (n + count)
-after n (Listed.Refused number line) = Listed.Refused number line
+abbrev pub after : ℕ → Size → Size
+after n (amount count) = amount (n + count)
+after n (refuses number line) = refuses number line
 
 after_more : (k n first count : ℕ) (ps : Pages)
     → after n (size_of (onto k (yields (numbers_from first count)) ps)) ≡ after (n + count) (size_of ps)
@@ -27,7 +27,7 @@ after_more k n first count (taken pages) =
     let row = numbers_from first count in
     let h : n + ∣ row ++ pages ∣ ≡ n + count + ∣ pages ∣ =
     omega (arith, length-append row pages, numbers_length first count) in
-    ap Listed.Pages h
+    ap amount h
 after_more k n first count (refused_at number line) = refl
 
 -- After k lines, n pages are counted.
@@ -38,16 +38,15 @@ module _ {s : List ℕ} {at unit k n : ℕ} (so_far : Counting s unit at k n) wh
   one_more : suc k ≡ k + 1
   one_more = omega arith
 
-  pub counts_on : {first count next : ℕ} → LineRead s at unit n (Reading.Pages first count next)
-      → Counting s unit next (k + 1) (n + count)
-  counts_on {first} {count} {next} read =
-      let rest : ℕ → Pages = λ j. pages_from unit j (n + count) (lines (drop next s)) in
+  pub counts_on : {y : Yielded} → LineRead s at unit n (Ok y) → Counting s unit y.next (k + 1) (n + y.count)
+  counts_on {y} read =
+      let rest : ℕ → Pages = λ j. pages_from unit j (n + y.count) (lines (drop y.next s)) in
       record {
         comes_to =
             so_far.comes_to
             ∙ ap (λ ps. after n (size_of ps)) (read.goes-on k)
-            ∙ after_more (suc k) n first count (rest (suc k))
-            ∙ ap (λ (j : ℕ). after (n + count) (size_of (rest j))) one_more;
+            ∙ after_more (suc k) n y.first y.count (rest (suc k))
+            ∙ ap (λ (j : ℕ). after (n + y.count) (size_of (rest j))) one_more;
       }
 
 -- THE BUFFER
@@ -70,12 +69,12 @@ pub record Writing (s : List ℕ) (unit at n : ℕ) (w now : List ℕ) : Type 0 
   pub others_follow : pages_from unit 0 0 (lines s) ≡ behind written (pages_from unit lines_behind n (lines (drop at s)))
 
 module _ {s : List ℕ} {unit at n : ℕ} {w now : List ℕ} (h : Writing s unit at n w now) where
-  pub writes_on : {first count next m : ℕ} {now' : List ℕ} → LineRead s at unit n (Reading.Pages first count next)
-      → Put now n (numbers_from first count) now' m → Writing s unit next m w now'
-  writes_on {first} {count} {next} {m} read puts =
-      let row = numbers_from first count in
+  pub writes_on : {y : Yielded} {m : ℕ} {now' : List ℕ} → LineRead s at unit n (Ok y)
+      → Put now n (numbers_from y.first y.count) now' m → Writing s unit y.next m w now'
+  writes_on {y} {m} read puts =
+      let row = numbers_from y.first y.count in
       let k = h.lines_behind in
-      let as_many : n + count ≡ m = omega (arith, puts.next_is, numbers_length first count) in
+      let as_many : n + y.count ≡ m = omega (arith, puts.next_is, numbers_length y.first y.count) in
       record {
         written = h.written ++ row;
         lines_behind = suc k;
@@ -83,6 +82,6 @@ module _ {s : List ℕ} {unit at n : ℕ} {w now : List ℕ} (h : Writing s unit
         others_follow =
             h.others_follow
             ∙ ap (behind h.written) (read.goes-on k)
-            ∙ behind_more h.written row (suc k) (pages_from unit (suc k) (n + count) (lines (drop next s)))
-            ∙ ap (λ (i : ℕ). behind (h.written ++ row) (pages_from unit (suc k) i (lines (drop next s)))) as_many;
+            ∙ behind_more h.written row (suc k) (pages_from unit (suc k) (n + y.count) (lines (drop y.next s)))
+            ∙ ap (λ (i : ℕ). behind (h.written ++ row) (pages_from unit (suc k) i (lines (drop y.next s)))) as_many;
       }

@@ -11,8 +11,9 @@ use Rattle.text.specs.Text.{bytes}
 use Rattle.sheets.specs.Result.{decimal, line_of}
 use Rattle.sheets.proofs.Numbers.{digits_of}
 use Rattle.traces.specs.Refusals.{page_lines}
-use Rattle.result.specs.Put.{PutFits, Put}
-use Rattle.result.proofs.Putting.{none_put, both, put_as}
+use Rattle.result.specs.declared.Place.{Place}
+use Rattle.result.specs.Place.{Fits, Puts}
+use Rattle.result.proofs.Placing.{none_put, both, put_as}
 
 abbrev pub page_line : ℕ → List ℕ
 page_line page = line_of (bytes "page=") (decimal page)
@@ -36,28 +37,27 @@ lines_more pages i inside =
     ∙ lines_append (take i pages) (last ∷ [])
     ∙ ap (λ l. page_lines (take i pages) ++ l) (append-nil (page_line last))
 
--- So many lines are put, each of at most 16 bytes.
-pub record Midway (w : List ℕ) (pages : List ℕ) (i : ℕ) (now : List ℕ) (next : ℕ) : Type 0 where
+-- From a place in front on, so many lines are put, each of at most 16 bytes.
+pub record Midway (start : Place) (pages : List ℕ) (i : ℕ) (now : Place) : Type 0 where
   pub some : i ≤ ∣ pages ∣
-  pub few_bytes : next ≤ 16 * i
-  pub put : Put w 0 (page_lines (take i pages)) now next
+  pub few_bytes : now.at ≤ 16 * i
+  pub puts : Puts start (page_lines (take i pages)) now
 
-pub begins : (w pages : List ℕ) → Midway w pages 0 w 0
-begins w pages = record { some = omega arith; few_bytes = omega arith; put = none_put }
+pub begins : (start : Place) (pages : List ℕ) → start.at ≡ 0 → Midway start pages 0 start
+begins start pages front = record { some = omega arith; few_bytes = omega arith; puts = none_put }
 
-module _ {w pages : List ℕ} {i : ℕ} {now : List ℕ} {next : ℕ} (h : Midway w pages i now next) where
+module _ {start : Place} {pages : List ℕ} {i : ℕ} {now : Place} (h : Midway start pages i now) where
   module _ (inside : i < ∣ pages ∣) (small : get_or pages i 0 < 2 ^ 32) where
-    pub room_for_line : 16 * ∣ pages ∣ ≤ ∣ w ∣ → PutFits now next (page_line (get_or pages i 0))
+    pub room_for_line : 16 * ∣ pages ∣ ≤ ∣ start.out.now ∣ → Fits now (page_line (get_or pages i 0))
     room_for_line room =
-        record { fits = omega (arith, h.few_bytes, h.put.as_long, line_length (get_or pages i 0) small) }
+        record { fits = omega (arith, h.few_bytes, h.puts.put.as_long, line_length (get_or pages i 0) small) }
 
-    pub goes-on : {now' : List ℕ} {next' : ℕ} → Put now next (page_line (get_or pages i 0)) now' next'
-        → Midway w pages (i + 1) now' next'
+    pub goes-on : {next : Place} → Puts now (page_line (get_or pages i 0)) next → Midway start pages (i + 1) next
     goes-on one = record {
       some = omega arith;
-      few_bytes = omega (arith, h.few_bytes, one.next_is, line_length (get_or pages i 0) small);
-      put = put_as (lines_more pages i inside) (both h.put one);
+      few_bytes = omega (arith, h.few_bytes, one.put.next_is, line_length (get_or pages i 0) small);
+      puts = put_as (lines_more pages i inside) (both h.puts one);
     }
 
-  pub ends : ∣ pages ∣ ≤ i → Put w 0 (page_lines pages) now next
-  ends all = put_as (ap page_lines (sym (take_all i pages all))) h.put
+  pub ends : ∣ pages ∣ ≤ i → Puts start (page_lines pages) now
+  ends all = put_as (ap page_lines (sym (take_all i pages all))) h.puts

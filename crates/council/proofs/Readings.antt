@@ -1,4 +1,5 @@
 -- A line's answer, by its record as the code knows it; and what the trace from the line on comes to by that answer.
+use Rattle.std.specs.Prelude.{Result, Ok, Err, Some, None}
 use mathlib.Core.Path.{◌≡◌, refl, ap, ◌∙◌}
 use mathlib.Core.List.{List, []}
 use Prim.Native.Nat.{ℕ, suc, ◌+◌, ◌-◌, ◌≤◌, ◌<◌, ◌^◌, min}
@@ -7,6 +8,7 @@ use lib.ListN.{take, drop}
 use borrow.Author.Tests.{eq-eqb, ne_eqb}
 use Rattle.terms.specs.Choice.{∣◌∣}
 use Rattle.terms.specs.Refusals.{no_record}
+use Rattle.terms.specs.declared.refusals.Refusal.{Refusal}
 use Rattle.sheets.specs.Lines.{lines}
 use Rattle.traces.specs.Record as Line
 use Rattle.traces.specs.Record.{read, write, not_in_form, record_of}
@@ -15,10 +17,9 @@ use Rattle.traces.specs.Trace.{yields, wrong, counted, of_record, read_line, yie
 use Rattle.terms.proofs.Rows.{numbers_length}
 use Rattle.lines.proofs.Cursor.{ClosedAt, MissingAt, ended, not_closed}
 use Rattle.records.specs.Answers.{beyond, up_to_beyond}
-use Rattle.records.specs.declared.Record.TheVariants.{Read, Write, NotInForm}
+use Rattle.records.specs.declared.Record.TheVariants.{Read, Write}
 use Rattle.council.specs.Answers.{told, Fits, LineRead}
-use Rattle.council.specs.declared.record_lines.Reading.{Reading}
-use Rattle.council.specs.declared.record_lines.Reading.TheVariants.{Pages, NoRecord, PageTooLarge, TooManyPages}
+use Rattle.council.specs.declared.record_lines.Yielded.{Yielded}
 use Rattle.council.proofs.Counting.{counted_alike}
 
 -- BY THE RECORD
@@ -31,7 +32,7 @@ module _ (unit n : ℕ) where
     pub counts : of ≡ unit → counted n lba size ≡ of_record unit n r
     pub does_not_count : (of ≡ unit → ⊥) → yields [] ≡ of_record unit n r
 
-  pub a_read : unit < 2 ^ 32 → (r : Line.Record) {of lba size : ℕ} → Read of lba size ≡ up_to_beyond r
+  pub a_read : unit < 2 ^ 32 → (r : Line.Record) {of lba size : ℕ} → Some (Read of lba size) ≡ up_to_beyond r
       → ReadAs r of lba size
   a_read small (read of' lba' size') {of} {lba} {size} is =
       let of_is : of ≡ min beyond of' = cc in
@@ -43,17 +44,17 @@ module _ (unit n : ℕ) where
         counts = λ same. rw (eq-eqb of' unit (omega arith), lba_is, size_is) (counted_alike n lba' size');
         does_not_count = λ other. rw (ne_eqb of' unit (omega arith));
       }
-  a_read small (write of' lba' size') is = let never : ◌≡◌ {A = ℕ} 0 1 = cc in absurd (omega arith)
-  a_read small not_in_form is = let never : ◌≡◌ {A = ℕ} 0 1 = cc in absurd (omega arith)
+  a_read small (write of' lba' size') is = absurd cc
+  a_read small not_in_form is = absurd cc
 
-  pub a_write : (r : Line.Record) → Write ≡ up_to_beyond r → yields [] ≡ of_record unit n r
-  a_write (read of lba size) is = let never : ◌≡◌ {A = ℕ} 0 1 = cc in absurd (omega arith)
+  pub a_write : (r : Line.Record) → Some Write ≡ up_to_beyond r → yields [] ≡ of_record unit n r
+  a_write (read of lba size) is = absurd cc
   a_write (write of lba size) is = refl
-  a_write not_in_form is = let never : ◌≡◌ {A = ℕ} 0 1 = cc in absurd (omega arith)
+  a_write not_in_form is = absurd cc
 
-  pub no-record : (r : Line.Record) → NotInForm ≡ up_to_beyond r → wrong no_record ≡ of_record unit n r
-  no-record (read of lba size) is = let never : ◌≡◌ {A = ℕ} 0 1 = cc in absurd (omega arith)
-  no-record (write of lba size) is = let never : ◌≡◌ {A = ℕ} 0 1 = cc in absurd (omega arith)
+  pub no-record : (r : Line.Record) → None ≡ up_to_beyond r → wrong no_record ≡ of_record unit n r
+  no-record (read of lba size) is = absurd cc
+  no-record (write of lba size) is = absurd cc
   no-record not_in_form is = refl
 
 -- THE TRACE FROM THE LINE ON
@@ -68,16 +69,20 @@ module _ {s : List ℕ} {at stop : ℕ} (closed : ClosedAt s at stop) (unit n : 
   unfolding read_line
   from_line is k = rw (closed.reads, is)
 
-  pub line_read : (r : Reading) → told r ≡ of_record unit n (record_of l) → Fits n (stop + 1) r → LineRead s at unit n r
-  line_read (Pages first count next) is fits = record {
-    goes-on = λ k. from_line is k ∙ rw (numbers_length first count, fits.2);
+  pub line_read : (r : Result Yielded Refusal) → told r ≡ of_record unit n (record_of l) → Fits n (stop + 1) r
+      → LineRead s at unit n r
+  line_read (Ok y) is fits = record {
+    goes-on = λ k. from_line is k ∙ rw (numbers_length y.first y.count, fits.2);
     ahead = (omega (arith, closed.from), omega (arith, closed.inside), fits.0, fits.1);
   }
-  line_read NoRecord is fits = record { goes-on = from_line is; ahead = tt }
-  line_read PageTooLarge is fits = record { goes-on = from_line is; ahead = tt }
-  line_read TooManyPages is fits = record { goes-on = from_line is; ahead = tt }
+  line_read (Err refusal) is fits = record { goes-on = from_line is; ahead = tt }
 
-pub missing_read : {s : List ℕ} {at unit n : ℕ} → at < ∣ s ∣ → MissingAt s at → LineRead s at unit n NoRecord
+  pub no_pages_read : {y : Yielded} → y ≡ record { first = 0; count = 0; next = stop + 1 } → n ≤ 1000
+      → yields [] ≡ of_record unit n (record_of l) → LineRead s at unit n (Ok y)
+  no_pages_read none few is =
+      rw none (line_read (Ok (record { first = 0; count = 0; next = stop + 1 })) is (omega arith, omega arith, refl))
+
+pub missing_read : {s : List ℕ} {at unit n : ℕ} → at < ∣ s ∣ → MissingAt s at → LineRead s at unit n (Err Refusal.NoRecord)
 missing_read inside (ended past is) = absurd (omega arith)
 missing_read {unit = unit} {n} inside (not_closed some is) =
     record { goes-on = λ k. ap (pages_from unit k n) is; ahead = tt }

@@ -13,28 +13,22 @@ returns-then-buffer-lt-MOST_PAGES c =
       | then-buffer-lt-MOST_PAGES-via-else-buffer-lt-MOST_PAGES+then-out-lt-LISTING w ↦ few_bytes _ _ _ _ (omega arith) (omega arith)
     ]
 
-pub returns-then-taken-ne-ACCEPTED : goal.returns-then-taken-ne-ACCEPTED
-returns-then-taken-ne-ACCEPTED c =
-    refusal_printed _ _ _ _ (omega arith) c.pages-taken.ensures (omega arith) c.if-taken-ne-ACCEPTED.true
-    c.write_refusal.ensures
-
 pub slice_bounds-put_page_lines-end : goal.slice_bounds-put_page_lines-end
-slice_bounds-put_page_lines-end c =
-    let front = accepted _ _ _ c.args.out.now (omega arith) c.pages-taken.ensures c.if-taken-ne-ACCEPTED.false in
-    front.inside
+slice_bounds-put_page_lines-end c = (accepted _ _ _ c.args.out.now (omega arith) c.in-Ok.ensures).inside
 
-pub slice_bounds-put_page_lines-end-2 : goal.slice_bounds-put_page_lines-end-2
-slice_bounds-put_page_lines-end-2 c =
-    let front = accepted _ _ _ c.args.out.now (omega arith) c.pages-taken.ensures c.if-taken-ne-ACCEPTED.false in
-    sym (length-take-le _ _ front.inside)
+pub slice_bounds-put_page_lines-end-in-Ok : goal.slice_bounds-put_page_lines-end-in-Ok
+slice_bounds-put_page_lines-end-in-Ok c =
+    sym (length-take-le _ _ (accepted _ _ _ c.args.out.now (omega arith) c.in-Ok.ensures).inside)
 
 pub put_page_lines-requires : goal.put_page_lines-requires
 put_page_lines-requires c =
-    let front = accepted _ _ _ c.args.out.now (omega arith) c.pages-taken.ensures c.if-taken-ne-ACCEPTED.false in
-    let words = length-take-le c.pages-taken.result.count c.pages-taken.new.pages front.inside in
-    omega (arith, words, front.at_most)
+    let front = accepted _ _ _ c.args.out.now (omega arith) c.in-Ok.ensures in
+    omega (arith, length-take-le c.in-Ok.count c.pages.new.pages front.inside, front.at_most)
 
-pub returns : goal.returns
-returns c =
-    pages_printed _ _ _ _ (omega arith) c.pages-taken.ensures (omega arith) c.if-taken-ne-ACCEPTED.false
-    c.put_page_lines.ensures
+pub returns-in-Ok : goal.returns-in-Ok
+returns-in-Ok c =
+    pages_printed _ _ _ _ (omega arith) c.in-Ok.ensures (omega arith) c.put_page_lines.ensures
+
+pub returns-in-Err : goal.returns-in-Err
+returns-in-Err c =
+    refusal_printed _ _ _ _ (omega arith) c.in-Err.ensures (omega arith) c.into.ensures c.write_refusal.ensures

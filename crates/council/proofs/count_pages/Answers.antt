@@ -5,7 +5,7 @@ use Rattle.council.proofs.count_pages.Goals as goal
 
 pub loop-at-preserved : goal.loop-at-preserved
 loop-at-preserved c =
-    let h = c.in-Pages.ensures in
+    let h = c.in-Ok.ensures in
     record {
       inside = h.ahead.1;
       few_lines = omega (arith, h.ahead.0);

@@ -6,9 +6,9 @@ use Rattle.council.proofs.fill.Goals as goal
 
 pub loop-at-preserved : goal.loop-at-preserved
 loop-at-preserved c =
-    let good = c.in-Pages in
+    let good = c.in-Ok.ensures in
     let put = c.put_pages-written.ensures in
     record {
-      few = omega (arith, put.next_is, numbers_length good.first good.more, good.ensures.ahead.2);
-      writing = writes_on c.loop-at.invariant.writing good.ensures put;
+      few = omega (arith, put.next_is, numbers_length c.in-Ok.read.first c.in-Ok.read.count, good.ahead.2);
+      writing = writes_on c.loop-at.invariant.writing good put;
     }

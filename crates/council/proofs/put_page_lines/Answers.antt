@@ -3,12 +3,14 @@ use Rattle.std.proofs.Common.{◌^◌, ◌<◌, get_or, arith}
 use Rattle.council.proofs.PageLines.{room_for_line, goes-on}
 use Rattle.council.proofs.put_page_lines.Goals as goal
 
-pub put_page_line-next-requires : goal.put_page_line-next-requires
-put_page_line-next-requires c =
-    let small : get_or c.args.pages.now c.loop-i.i 0 < 2 ^ 32 = omega (arith, c.type_inv.pages c.loop-i.i) in
-    room_for_line c.loop-i.invariant (omega arith) small (omega arith)
+pub put_line-requires : goal.put_line-requires
+put_line-requires c =
+    let page = c.loop-page.page-index in
+    let small : get_or c.args.pages.now page 0 < 2 ^ 32 = omega (arith, c.type_inv.pages page) in
+    room_for_line c.loop-page.invariant (omega arith) small (omega arith)
 
-pub loop-i-preserved : goal.loop-i-preserved
-loop-i-preserved c =
-    let small : get_or c.args.pages.now c.loop-i.i 0 < 2 ^ 32 = omega (arith, c.type_inv.pages c.loop-i.i) in
-    goes-on c.loop-i.invariant (omega arith) small c.put_page_line-next.ensures
+pub loop-page-preserved : goal.loop-page-preserved
+loop-page-preserved c =
+    let page = c.loop-page.page-index in
+    let small : get_or c.args.pages.now page 0 < 2 ^ 32 = omega (arith, c.type_inv.pages page) in
+    goes-on c.loop-page.invariant (omega arith) small c.put_line.ensures
