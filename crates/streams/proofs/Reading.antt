@@ -1,9 +1,8 @@
 -- A read into a part is a read at the part's place, and what all reads put stands in front as each put it.
-use Rattle.std.proofs.Common.{◌≡◌, ◌∙◌, refl, sym, ap, subst, List, ◌++◌, ℕ, ◌+◌, ◌-◌, ◌≤◌, add-zero, length, take, drop, Option, Ok, Err, arith}
+use Rattle.std.proofs.Common.{◌≡◌, ◌∙◌, refl, sym, ap, subst, List, ◌++◌, ℕ, ◌+◌, ◌-◌, ◌≤◌, length, take, drop, Option, Ok, arith}
 use Rattle.std.proofs.lemmas.List.{take-append-le, length-take-le}
 use Rattle.std.proofs.Math.Seq.{take-append-add}
 use Rattle.std.specs.Io.KnownBytes.{Consumes, Keeps}
-use Rattle.std.specs.declared.io.Error.{Error}
 use Rattle.std.proofs.KnownBytes.{Consumes-trans, Consumes-kept}
 use lib.Seq.{take-add}
 use borrow.Rule.Slice.PartMut.{mid_of, post_of, put_mid, mid_len, same_len_mid, take_put}
@@ -30,11 +29,12 @@ take-put_mid w part at n within few =
     ∙ ap (λ (l : List ℕ). take at w ++ l) (take-append-le n part (post_of at (length w - at) w) few)
 
 -- The reader's next bytes are those that came before, and then those that a read put.
-pub next_more : (a b c : Option (List ℕ)) (w part : List ℕ) (at n : ℕ) → at ≤ length w → n ≤ length part
-    → Consumes a b (take at w) → Consumes b c (take n part)
-    → Consumes a c (take (at + n) (put_mid at (length w - at) w part))
-next_more a b c w part at n within few before one =
-    subst (λ (l : List ℕ). Consumes a c l) (sym (take-put_mid w part at n within few))
+pub next_more : (a b c : Option (List ℕ)) (w part : List ℕ) (at n at' : ℕ) → at ≤ length w → n ≤ length part
+    → Consumes a b (take at w) → Consumes b c (take n part) → at' ≡ at + n
+    → Consumes a c (take at' (put_mid at (length w - at) w part))
+next_more a b c w part at n at' within few before one further =
+    let w' = put_mid at (length w - at) w part in
+    subst (λ (l : List ℕ). Consumes a c l) (sym (ap (λ (k : ℕ). take k w') further ∙ take-put_mid w part at n within few))
     (Consumes-trans a b c (take at w) (take n part) before one)
 
 -- After a read that put nothing and failed they are those that came before.
@@ -57,19 +57,14 @@ pub record SoFar (w : List ℕ) (at : ℕ) (v : List ℕ) : Type 0 where
 pub begun : (w : List ℕ) → SoFar w 0 w
 begun w = record { reads = none; fits = omega arith; as_long = refl }
 
-pub one_more : {w v w' : List ℕ} {at : ℕ} → SoFar w at v → (r : Answer) → GoesOn r → ReadAt v at r w'
-    → SoFar w (at + put r) w'
-one_more h r on one = record {
+-- After a read that goes on, as many more as it put: an interrupted one put nothing.
+pub one_more : {w v w' : List ℕ} {at at' : ℕ} → SoFar w at v → (r : Answer) → GoesOn r → ReadAt v at r w'
+    → at' ≡ at + put r → SoFar w at' w'
+one_more {w} {w' = w'} h r on one further = subst (λ (n : ℕ). SoFar w n w') (sym further) record {
   reads = more h.reads r on one;
   fits = omega (arith, one.fits, one.as_long);
   as_long = one.as_long ∙ h.as_long;
 }
-
--- An interrupted read put nothing.
-pub none_more : {w v w' : List ℕ} {at : ℕ} {e : Error} → SoFar w at v → GoesOn (Err e) → ReadAt v at (Err e) w'
-    → SoFar w at w'
-none_more {w} {w' = w'} {at} {e} h on one =
-    subst (λ (n : ℕ). SoFar w n w') (add-zero at) (one_more h (Err e) on one)
 
 pub found_end : {w v w' : List ℕ} {n : ℕ} → SoFar w n v → ReadAt v n (Ok 0) w' → Whole w n w'
 found_end {v = v} h one = record {
