@@ -7,8 +7,8 @@ use Rattle.soundness.proofs.Rules.{sound_sizes, sound_flags, sound_zeros, sound_
 use Rattle.soundness.proofs.is_sound.Goals.{then-sizes_fit, else-sizes_fit, then-flags_known, else-flags_known}
 use Rattle.soundness.proofs.is_sound.Goals as goal
 
-pub entries_sound-requires : goal.entries_sound-requires
-entries_sound-requires c =
+pub invariant_of-entries_sound : goal.invariant_of-entries_sound
+invariant_of-entries_sound c =
     let is = c.args.dir.now in
     elim c.if-flags_known.branch [
       | then-flags_known w ↦
@@ -17,8 +17,10 @@ entries_sound-requires c =
             | then-sizes_fit v ↦
                 let sizes : sizes_fit is ≡ true = sym c.sizes_fit.ensures ∙ v.if-sizes_fit.true in
                 let flags_are : v.flags_known.result ≡ flags_known is = cc in
-                held c.requires sizes (sym flags_are ∙ sym v.value-is ∙ w.if-flags_known.true)
-                (sym zeros_are ∙ sym w.value-is ∙ c.if-all_zero.true)
+                record {
+                  held = held c.requires sizes (sym flags_are ∙ sym v.value-is ∙ w.if-flags_known.true)
+                      (sym zeros_are ∙ sym w.value-is ∙ c.if-all_zero.true);
+                }
             | else-sizes_fit v ↦ absurd (never (v.value-is ∙ v.if-sizes_fit.false) w.if-flags_known.true)
           ]
       | else-flags_known w ↦ absurd (never (w.value-is ∙ w.if-flags_known.false) c.if-all_zero.true)

@@ -4,13 +4,13 @@ use Rattle.figures.specs.Classics.{clear_sound}
 use Rattle.terms.proofs.Tests.{reads, agree}
 use Rattle.soundness.proofs.Tests.{denied}
 use Rattle.soundness.proofs.Parts.{told, t1_stands}
-use Rattle.soundness.proofs.clear_sound.Goals as goal
+use Rattle.soundness.proofs.Held.clear_sound.Goals as goal
 
 pub returns-then-alone_sound : goal.returns-then-alone_sound
 unfolding clear_sound
 returns-then-alone_sound c =
     let shared = sym c.alone_sound.ensures ∙ c.if-alone_sound.true in
-    let ones = told (t1_stands c.requires) c.count.ensures.1 (omega arith) (omega arith) in
+    let ones = told (t1_stands c.args.self.held) c.count.ensures.1 (omega arith) (omega arith) in
     agree
     _
     _

@@ -5,13 +5,13 @@ use Rattle.figures.specs.Classics.{alone_sound}
 use Rattle.terms.proofs.Tests.{reads, agree}
 use Rattle.soundness.proofs.Tests.{fails, never}
 use Rattle.soundness.proofs.Parts.{told, t1_stands}
-use Rattle.soundness.proofs.alone_sound.Goals.{then-dir-eq0, else-dir-eq0, then-dir-eq0-2, else-dir-eq0-2}
-use Rattle.soundness.proofs.alone_sound.Goals as goal
+use Rattle.soundness.proofs.Held.alone_sound.Goals.{then-dir-eq0, else-dir-eq0, then-dir-eq0-2, else-dir-eq0-2}
+use Rattle.soundness.proofs.Held.alone_sound.Goals as goal
 
 pub returns-then-n-remembered-eq0 : goal.returns-then-n-remembered-eq0
 unfolding alone_sound
 returns-then-n-remembered-eq0 c =
-    let ones = told (t1_stands c.requires) c.count.ensures.1 (omega arith) (omega arith) in
+    let ones = told (t1_stands c.args.self.held) c.count.ensures.1 (omega arith) (omega arith) in
     elim c.if-dir-eq0-2.branch [
       | then-dir-eq0-2 w ↦
           let others = eqb-true _ 0 (sym w.value-is ∙ c.if-n-remembered-eq0.true) in

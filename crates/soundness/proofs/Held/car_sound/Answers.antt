@@ -8,16 +8,16 @@ use Rattle.figures.specs.Car.{car_sound}
 use Rattle.terms.proofs.Tests.{reads, agree}
 use Rattle.soundness.proofs.Tests.{fails}
 use Rattle.soundness.proofs.Parts.{told, all_stand}
-use Rattle.soundness.proofs.car_sound.Goals.{then-dir-eq0, else-dir-eq0}
-use Rattle.soundness.proofs.car_sound.Goals as goal
+use Rattle.soundness.proofs.Held.car_sound.Goals.{then-dir-eq0, else-dir-eq0}
+use Rattle.soundness.proofs.Held.car_sound.Goals as goal
 
 pub returns-then-count-eq0 : goal.returns-then-count-eq0
 unfolding car_sound
 returns-then-count-eq0 c =
     elim c.if-dir-eq0.branch [
       | then-dir-eq0 w ↦
-          let ones : w.count.result ≡ total long (listed (decode c.args.dir.now)) =
-          told (all_stand c.requires) w.count.ensures.1 (omega arith) (omega arith) in
+          let ones : w.count.result ≡ total long (listed (decode c.args.self.dir.now)) =
+          told (all_stand c.args.self.held) w.count.ensures.1 (omega arith) (omega arith) in
           let none_long = sym ones ∙ eqb-true _ 0 (sym w.value-is ∙ c.if-count-eq0.true) in
           agree
           _
@@ -33,8 +33,8 @@ returns-else-count-eq0 c =
     c.if-count-eq0.false
     ∙ elim c.if-dir-eq0.branch [
       | then-dir-eq0 w ↦
-          let ones : w.count.result ≡ total long (listed (decode c.args.dir.now)) =
-          told (all_stand c.requires) w.count.ensures.1 (omega arith) (omega arith) in
+          let ones : w.count.result ≡ total long (listed (decode c.args.self.dir.now)) =
+          told (all_stand c.args.self.held) w.count.ensures.1 (omega arith) (omega arith) in
           fails _ (λ h. let said = simp reads at h in eqb-false _ 0 (sym w.value-is ∙ c.if-count-eq0.false) (ones ∙ said.1.0))
       | else-dir-eq0 w ↦ fails _ (λ h. let said = simp reads at h in w.if-dir-eq0.false said.0)
     ]
