@@ -1,40 +1,57 @@
--- A line under its key, by the cursor's answer: the value's stretch of the sheet, or no such line.
-use mathlib.Core.Path.{◌≡◌, ap}
-use mathlib.Core.Bool.{true, false}
-use mathlib.Core.List.{List}
-use Prim.Native.Nat.{ℕ, ◌+◌, ◌-◌}
+-- A line under its key, by the cursor's answer: the value's bytes and the place of the next line, or no such line.
+use Rattle.std.specs.Prelude.{Ok, Err}
+use Rattle.std.specs.Borrow.{Bor}
+use mathlib.Core.Path.{◌≡◌, refl, sym, ap, ◌∙◌}
+use mathlib.Core.Bool.{Bool, true, false}
+use mathlib.Core.List.{List, [], ◌∷◌}
+use Prim.Native.Nat.{ℕ, suc, ◌+◌, ◌-◌}
 use native.Mathlib.Omega.{arith}
-use lib.ListN.{take, drop}
-use lib.Seq.{drop-drop}
-use Rattle.terms.specs.Choice.{∣◌∣}
+use lib.Dec.{eqb}
+use lib.ListN.{length, take, drop}
+use borrow.Author.Tests.{ne_eqb}
+use lib.Pointwise.{pointwise}
+use Rattle.terms.specs.Choice.{∣◌∣, same}
+use Rattle.terms.specs.declared.refusals.Refusal.{Refusal}
 use Rattle.text.specs.Text.{starts}
+use Rattle.text.proofs.Text.{both-is}
 use Rattle.sheets.specs.Lines.{under}
-use Rattle.text.proofs.Text.{drop_take, part_length, starts_fits}
 use Rattle.lines.proofs.Cursor.{ClosedAt, MissingAt, ended, not_closed, closed_line, missing_line}
 use Rattle.bid.specs.Answers.{KeyedAt}
-use Rattle.bid.specs.declared.keyed_lines.Keyed.TheVariants.{Value as ValueAt, NoSuchLine}
+
+-- A key is stripped as `starts` looks for it.
+strips-is : (key l : List ℕ) → pointwise eqb (take ∣ key ∣ l) key ≡ starts key l
+strips-is [] l = refl
+strips-is (k ∷ key) [] = refl
+strips-is (k ∷ key) (b ∷ l) = rw (strips-is key l) (both-is (eqb b k) (starts key l))
 
 module _ {s : List ℕ} {at stop : ℕ} (closed : ClosedAt s at stop) where
   -- The line itself.
   abbrev l : List ℕ
   l = take (stop - at) (drop at s)
 
-  pub other_key : {key : List ℕ} → starts key l ≡ false → KeyedAt s at key NoSuchLine
-  other_key test = record { under_key = λ meant. rw (closed.reads, test); inside = tt }
+  module _ {key : List ℕ} where
+    pub other_key : pointwise eqb (take ∣ key ∣ l) key ≡ false → KeyedAt s at key (Err Refusal.NoSuchLine)
+    other_key test =
+        let other = sym (strips-is key l) ∙ test in
+        record { under_key = λ meant. rw (closed.reads, other); ahead = tt }
 
-  pub its_key : {key : List ℕ} → starts key l ≡ true → KeyedAt s at key (ValueAt (at + ∣ key ∣) stop)
-  its_key {key} test =
-      let fits = starts_fits key l test in
-      let long = part_length at stop s (omega (arith, closed.inside)) in
-      let width : stop - at - ∣ key ∣ ≡ stop - (at + ∣ key ∣) = omega arith in
-      record {
-        under_key = λ meant. rw (closed.reads, test, drop_take, drop-drop, width);
-        inside = (omega arith, omega (arith, closed.from), closed.inside);
-      }
+    pub its_key : {value : Bor (List ℕ)} → pointwise eqb (take ∣ key ∣ l) key ≡ true → value.now ≡ drop ∣ key ∣ l
+        → KeyedAt s at key (Ok (value, stop + 1))
+    its_key test value_is =
+        let its = sym (strips-is key l) ∙ test in
+        record {
+          under_key = λ meant. rw (closed.reads, its, value_is);
+          ahead = (omega (arith, closed.from), omega (arith, closed.inside));
+        }
 
-pub no_line : {s : List ℕ} {at : ℕ} {key : List ℕ} → MissingAt s at → KeyedAt s at key NoSuchLine
-no_line {key = key} (ended past none) = record { under_key = λ meant. ap (under key meant) none; inside = tt }
-no_line {key = key} (not_closed some none) = record { under_key = λ meant. ap (under key meant) none; inside = tt }
+pub no_line : {s : List ℕ} {at : ℕ} {key : List ℕ} → MissingAt s at → KeyedAt s at key (Err Refusal.NoSuchLine)
+no_line {key = key} (ended past none) = record { under_key = λ meant. ap (under key meant) none; ahead = tt }
+no_line {key = key} (not_closed some none) = record { under_key = λ meant. ap (under key meant) none; ahead = tt }
+
+-- Bytes that are none, as the policy's value asks first.
+pub blank : (s : List ℕ) (r : Bool) → r ≡ eqb (length s) 0 → same s [] ≡ r
+blank [] r is = sym is
+blank (b ∷ s) r is = rw is (sym (ne_eqb (suc (length s)) 0 (λ none. absurd (omega arith))))
 
 -- By the cursor's answer, and then by the key.
 pub ruleset keyed = (closed_line, missing_line, its_key, other_key, no_line)

@@ -1,6 +1,7 @@
 -- The sheet by its lines' answers, in order: the first that is wrong decides; after three good ones the page lines do.
 -- Then what the answer says of the sheet, and the reader's: its pages over the buffer where it is accepted.
-use mathlib.Core.Path.{◌≡◌, refl, sym, ap, ◌∙◌}
+use Rattle.std.specs.Prelude.{Result, Ok, Err}
+use mathlib.Core.Path.{◌≡◌, refl, sym, ap, ap₂, ◌∙◌}
 use mathlib.Core.Bool.{true}
 use mathlib.Core.List.{List}
 use Prim.Native.Nat.{ℕ, ◌≤◌, ◌<◌}
@@ -10,6 +11,11 @@ use borrow.Author.Rules.{rules}
 use borrow.Author.Tests.{lt-ltb, le-ltb}
 use Rattle.terms.specs.Choice.{∣◌∣}
 use Rattle.terms.specs.Policies.{cart, known_policy}
+use Rattle.terms.specs.Refusals.{number_of}
+use Rattle.terms.specs.RefusedAt.{number_at}
+use Rattle.terms.proofs.Numbers.{not_accepted}
+use Rattle.terms.specs.declared.refusals.Refusal.{Refusal}
+use Rattle.terms.specs.declared.refusals.RefusedAt.{RefusedAt}
 use Rattle.sheets.specs.Number.{Value, means}
 use Rattle.sheets.specs.Lines as Lines
 use Rattle.sheets.specs.Lines.{Lines, lines}
@@ -18,25 +24,22 @@ use Rattle.sheets.specs.Bid.{Meaning, bid, refused, Pages, listed, refused_at, p
 use Rattle.sheets.specs.Bid.{pages_from, with_pages, after_line, in_order, meaning_where, meaning}
 use Rattle.sheets.specs.Refusals.{answer, on_read}
 use Rattle.sheets.proofs.Bids.{refusal_has_number}
-use Rattle.bid.specs.Answers.{number_of, ReadsLine, size_of, PagesFilled, refused_judged, JudgedAs}
-use Rattle.bid.specs.Promises.{bid_of, BidJudged, ReadAs}
+use Rattle.bid.specs.Answers.{PagesCounted, PagesFilled, JudgedGood}
+use Rattle.bid.specs.Promises.{answer_of, BidJudged, ReadAs}
 use Rattle.bid.specs.declared.Bid.{Bid}
-use Rattle.bid.specs.declared.Judged.{Judged}
-use Rattle.bid.specs.declared.keyed_lines.Reading.{Reading}
-use Rattle.bid.specs.declared.keyed_lines.Reading.TheVariants.{Good}
-use Rattle.bid.specs.declared.Listed.TheVariants as Listed
-use Rattle.bid.proofs.Listing.{Wrong, refuses}
+use Rattle.bid.proofs.Readings.{LineRead}
 
 -- ONE LINE
 
-module _ {s : List ℕ} {at : ℕ} {reading : Lines.Reading} {r : Reading} (n : ℕ) (follows : ℕ → Lines → Meaning) where
-  pub line_decides : ReadsLine s at reading r → Wrong r → after_line n reading follows ≡ refused (number_of r) n
-  line_decides h wrong = ap (λ x. after_line n x follows) (sym h.tells ∙ refuses s r wrong)
-
 module _ {s : List ℕ} {at : ℕ} {reading : Lines.Reading} (n : ℕ) (follows : ℕ → Lines → Meaning) where
-  pub line_goes_on : {value next : ℕ} → ReadsLine s at reading (Good value next)
+  pub line_decides : {e : RefusedAt} → LineRead s at reading n (Err e)
+      → after_line n reading follows ≡ refused (number_of e.refusal) e.line
+  line_decides {e} h =
+      ap (λ x. after_line n x follows) (sym h.reads.tells) ∙ ap (refused (number_of e.refusal)) (sym h.line_is)
+
+  pub line_goes_on : {value next : ℕ} → LineRead s at reading n (Ok (value, next))
       → after_line n reading follows ≡ follows value (lines (drop next s))
-  line_goes_on h = ap (λ x. after_line n x follows) (sym h.tells)
+  line_goes_on h = ap (λ x. after_line n x follows) (sym h.reads.tells)
 
 -- THE LINES IN ORDER
 
@@ -56,15 +59,15 @@ from_first blankIs s short = rw (le-ltb 16000 ∣ s ∣ short)
 
 -- What the sheet comes to by the lines after the first, after the second and after the third, where those are good.
 module _ (blankIs : Value) {s : List ℕ} (short : ∣ s ∣ ≤ 16000) {policy second : ℕ}
-    (policy_read : ReadsLine s 0 (policy_line blankIs (lines s)) (Good policy second)) where
+    (policy_read : LineRead s 0 (policy_line blankIs (lines s)) 1 (Ok (policy, second))) where
   pub by_second : meaning_where blankIs s ≡ from_second policy (lines (drop second s))
   by_second = from_first blankIs s short ∙ line_goes_on 1 from_second policy_read
 
-  module _ {c third : ℕ} (size_read : ReadsLine s second (size_line (lines (drop second s))) (Good c third)) where
+  module _ {c third : ℕ} (size_read : LineRead s second (size_line (lines (drop second s))) 2 (Ok (c, third))) where
     pub by_third : meaning_where blankIs s ≡ from_third policy c (lines (drop third s))
     by_third = by_second ∙ line_goes_on 2 (from_third policy) size_read
 
-    pub by_pages : {cost fourth : ℕ} → ReadsLine s third (cost_line (lines (drop third s))) (Good cost fourth)
+    pub by_pages : {cost fourth : ℕ} → LineRead s third (cost_line (lines (drop third s))) 3 (Ok (cost, fourth))
         → meaning_where blankIs s ≡ with_pages policy c cost (pages_from 0 (lines (drop fourth s)))
     by_pages cost_read = by_third ∙ line_goes_on 3 (from_fourth policy c) cost_read
 
@@ -72,46 +75,28 @@ pub too-long : (blankIs : Value) (s : List ℕ) → 16000 < ∣ s ∣ → meanin
 unfolding meaning_where
 too-long blankIs s long = rw (lt-ltb 16000 ∣ s ∣ long)
 
--- THE PAGE LINES BY THEIR COUNT
-
-pub pages_refused : (ps : Pages) {number line : ℕ} → Listed.Refused number line ≡ size_of ps
-    → ps ≡ refused_at number line
-pages_refused (listed pages) h = let never : ◌≡◌ {A = ℕ} 0 1 = cc in absurd (omega arith)
-pages_refused (refused_at number line) h = cc
-
-pub record PagesCounted (ps : Pages) (count : ℕ) : Type 0 where
-  pub pages : List ℕ
-  pub is_listed : ps ≡ listed pages
-  pub as_many : count ≡ ∣ pages ∣
-
-pub pages_counted : (ps : Pages) {count : ℕ} → Listed.Pages count ≡ size_of ps → PagesCounted ps count
-pages_counted (listed pages) h = record { pages = pages; is_listed = refl; as_many = cc }
-pages_counted (refused_at number line) h = let never : ◌≡◌ {A = ℕ} 0 1 = cc in absurd (omega arith)
-
 -- THE SHEET JUDGED
-
-pub judged_refused : {s : List ℕ} {m : Meaning} {number line : ℕ} {r : Judged} → m ≡ refused number line
-    → r ≡ refused_judged number line → JudgedAs s m r
-judged_refused is so = rw (is, so) (record {
-  answer_is = refl;
-  pages_there = λ b never. let no : ◌≡◌ {A = ℕ} 0 1 = cc in absurd (omega arith);
-})
-
-pub judged_wrong_line : {s : List ℕ} {m : Meaning} {number line n : ℕ} {r : Judged} → m ≡ refused number line
-    → n ≡ number → r ≡ refused_judged n line → JudgedAs s m r
-judged_wrong_line {line = line} is same so = judged_refused is (so ∙ ap (λ (n : ℕ). refused_judged n line) same)
 
 pub judged_bid : {s : List ℕ} {m : Meaning} {policy c cost count start : ℕ}
     → m ≡ with_pages policy c cost (pages_from 0 (lines (drop start s)))
     → PagesCounted (pages_from 0 (lines (drop start s))) count
-    → JudgedAs s m (record {
-      bid = record { number = 0; line = 0; policy = policy; c = c; cost = cost; count = count };
-      start = start;
-    })
-judged_bid is counted = rw (is, counted.is_listed, counted.as_many) (record {
-  answer_is = refl;
-  pages_there = λ b same. counted.is_listed ∙ ap listed cc;
-})
+    → JudgedGood s m (record { policy = policy; c = c; cost = cost; count = count }) start
+judged_bid {policy = policy} {c} {cost} is counted = record {
+  pages = counted.pages;
+  meaning_is = is ∙ ap (with_pages policy c cost) counted.is_listed;
+  count_is = counted.as_many;
+  pages_there = counted.is_listed;
+}
+
+-- The answer by the meaning, without its page lines.
+module _ (s : List ℕ) (blank : ℕ) where
+  pub answer_good : {b : Bid} {start : ℕ} → JudgedGood s (meaning_where (means blank) s) b start
+      → BidJudged s blank (Ok b)
+  answer_good h = rw (h.meaning_is, h.count_is) refl
+
+  pub answer_refused : (e : RefusedAt) → meaning_where (means blank) s ≡ refused (number_of e.refusal) e.line
+      → BidJudged s blank (Err e)
+  answer_refused e is = rw is refl
 
 -- WHAT THE ANSWER SAYS OF THE SHEET
 
@@ -119,50 +104,57 @@ pub record Accepted (m : Meaning) : Type 0 where
   pub its_bid : Sheet.Bid
   pub means_bid : m ≡ bid its_bid
 
-module _ (blank : ℕ) (known : known_policy blank ≡ true) (s : List ℕ) {r : Bid} (judged : BidJudged s blank r) where
-  number_is : {m : Meaning} → meaning_where (means blank) s ≡ m → r.number ≡ (bid_of m).number
-  number_is is = ap (λ b. b.number) judged ∙ ap (λ m. (bid_of m).number) is
+module _ (blank : ℕ) (known : known_policy blank ≡ true) (s : List ℕ) where
+  number_is : (r : Result Bid RefusedAt) {m : Meaning} → BidJudged s blank r → meaning_where (means blank) s ≡ m
+      → number_at r ≡ (answer_of m).number
+  number_is r judged is = ap (λ a. a.number) judged ∙ ap (λ m. (answer_of m).number) is
 
-  pub sheet_accepted : r.number ≡ 0 → Accepted (meaning_where (means blank) s)
-  sheet_accepted none = go (meaning_where (means blank) s) refl
+  pub sheet_accepted : (b : Bid) → BidJudged s blank (Ok b) → Accepted (meaning_where (means blank) s)
+  sheet_accepted b judged = go (meaning_where (means blank) s) refl
     where
       go : (m : Meaning) → meaning_where (means blank) s ≡ m → Accepted m
       go (bid b) is = record { its_bid = b; means_bid = refl }
       go (refused number line) is =
-          absurd (omega (arith, number_is is, refusal_has_number blank known s number line is))
+          absurd (omega (arith, number_is (Ok b) judged is, refusal_has_number blank known s number line is))
 
-  pub sheet_refused : (r.number ≡ 0 → ⊥) → meaning_where (means blank) s ≡ refused r.number r.line
-  sheet_refused some = go (meaning_where (means blank) s) refl
+  pub sheet_refused : (e : RefusedAt) → BidJudged s blank (Err e)
+      → meaning_where (means blank) s ≡ refused (number_of e.refusal) e.line
+  sheet_refused e judged = go (meaning_where (means blank) s) refl
     where
-      go : (m : Meaning) → meaning_where (means blank) s ≡ m → m ≡ refused r.number r.line
-      go (bid b) is = absurd (some (number_is is))
-      go (refused number line) is = rw (judged, is)
+      go : (m : Meaning) → meaning_where (means blank) s ≡ m → m ≡ refused (number_of e.refusal) e.line
+      go (bid b) is = absurd (not_accepted e.refusal (number_is (Err e) judged is))
+      go (refused number line) is =
+          let told = judged ∙ ap answer_of is in
+          ap₂ refused (sym (ap (λ a. a.number) told)) (sym (ap (λ a. a.line) told))
 
 -- THE READER'S ANSWER
-
-read_as : (m : Meaning) (w w' : List ℕ) {r : Bid} → r ≡ bid_of m → w' ≡ (answer m w).pages → ReadAs (answer m w) r w'
-read_as (bid b) w w' so words = rw so (search (rules, words))
-read_as (refused number line) w w' so words = rw so (search (rules, words))
 
 pub read_by_meaning : (s w : List ℕ) → 1000 ≤ ∣ w ∣ → on_read s w ≡ answer (meaning s) w
 unfolding on_read
 read_by_meaning s w room = rw (le-ltb ∣ w ∣ 1000 room)
 
-module _ (s w : List ℕ) (room : 1000 ≤ ∣ w ∣) {r : Judged} (judged : JudgedAs s (meaning s) r) where
-  answers : {w' : List ℕ} → w' ≡ (answer (meaning s) w).pages → ReadAs (on_read s w) r.bid w'
-  answers {w'} words = rw (read_by_meaning s w room) (read_as (meaning s) w w' judged.answer_is words)
+module _ (s w : List ℕ) (room : 1000 ≤ ∣ w ∣) {blank : ℕ} (is_cart : blank ≡ cart) where
+  -- The reader takes a blank policy for cart.
+  by_cart : meaning s ≡ meaning_where (means blank) s
+  by_cart = ap (λ policy. meaning_where (means policy) s) (sym is_cart)
 
-  pub pages_read : {w' : List ℕ} → r.bid.number ≡ 0 → PagesFilled s r.start w w'
-      → ReadAs (on_read s w) r.bid w'
-  pages_read none filled =
-      let b = sheet_accepted cart refl s judged.answer_is none in
-      answers (filled b.its_bid.pages (judged.pages_there b.its_bid b.means_bid)
-      ∙ ap (λ m. (answer m w).pages) (sym b.means_bid))
+  pub pages_read : {w' : List ℕ} {b : Bid} {start : ℕ} → JudgedGood s (meaning_where (means blank) s) b start
+      → PagesFilled s start w w' → ReadAs (on_read s w) (Ok b) w'
+  pages_read h filled = rw (read_by_meaning s w room, by_cart, h.meaning_is) (record {
+    number_is = refl;
+    line_is = refl;
+    policy_is = refl;
+    c_is = refl;
+    cost_is = refl;
+    count_is = h.count_is;
+    words_are = filled h.pages h.pages_there;
+  })
 
-  pub none_read : (r.bid.number ≡ 0 → ⊥) → ReadAs (on_read s w) r.bid w
-  none_read some =
-      answers (ap (λ m. (answer m w).pages) (sym (sheet_refused cart refl s judged.answer_is some)))
+  pub none_read : (e : RefusedAt) → meaning_where (means blank) s ≡ refused (number_of e.refusal) e.line
+      → ReadAs (on_read s w) (Err e) w
+  none_read e is = rw (read_by_meaning s w room, by_cart, is) (search rules)
 
-pub short_buffer : (s w : List ℕ) {r : Judged} → ∣ w ∣ < 1000 → r ≡ refused_judged 6 0 → ReadAs (on_read s w) r.bid w
+pub short_buffer : (s w : List ℕ) {e : RefusedAt} → ∣ w ∣ < 1000 → e.refusal ≡ Refusal.BufferTooShort → e.line ≡ 0
+    → ReadAs (on_read s w) (Err e) w
 unfolding on_read
-short_buffer s w short so = rw (lt-ltb ∣ w ∣ 1000 short, so) (search rules)
+short_buffer s w short refusal line = rw (lt-ltb ∣ w ∣ 1000 short) (search rules)

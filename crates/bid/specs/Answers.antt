@@ -1,80 +1,61 @@
--- What the cases of each answer mean: the numbers and values that document 01 gives them.
+-- What each answer within the reader means, by document 01's numbers and values.
 -- A place in the sheet stands for the lines from there on.
-use Rattle.std.specs.Prelude.{◌≡◌, List, ℕ, ◌+◌, ◌-◌, ◌≤◌, ◌<◌, take, drop}
+use Rattle.std.specs.Prelude.{◌≡◌, List, ℕ, ◌≤◌, ◌<◌, drop, Result, Ok, Err, IfOk, MatchResult}
+use Rattle.std.specs.Borrow.{Bor}
 use Rattle.terms.specs.Choice.{∣◌∣}
-use Rattle.terms.specs.Refusals.{accepted, policy_not_known, size_not_known, too_many_pages, no_such_line, not_in_form}
-use Rattle.sheets.specs.Number.{Value}
-use Rattle.sheets.specs.Lines as Lines
-use Rattle.sheets.specs.Lines.{lines, good, bad, before, under}
-use Rattle.sheets.specs.Bid as Bid
-use Rattle.sheets.specs.Bid.{named, blank, unknown, bid, Pages, listed, refused_at, pages_from}
+use Rattle.terms.specs.Refusals.{number_of}
+use Rattle.terms.specs.declared.refusals.Refusal.{Refusal}
+use Rattle.terms.specs.declared.refusals.RefusedAt.{RefusedAt}
+use Rattle.sheets.specs.Number.{Value, means, wrong}
+use Rattle.sheets.specs.Lines.{Reading, lines, good, bad, before, under}
+use Rattle.sheets.specs.Bid.{Meaning, bid, refused, Pages, listed, refused_at, pages_from}
 use Rattle.sheets.specs.Refusals.{over}
-use Rattle.bid.specs.declared.keyed_lines.Keyed.{Keyed}
-use Rattle.bid.specs.declared.keyed_lines.PolicyValue.{PolicyValue}
-use Rattle.bid.specs.declared.keyed_lines.PolicyValue.TheVariants as Policy
-use Rattle.bid.specs.declared.keyed_lines.Reading.{Reading}
-use Rattle.bid.specs.declared.Listed.{Listed}
-use Rattle.bid.specs.declared.Judged.{Judged}
-use Rattle.bid.specs.Promises.{refused_bid, bid_of}
+use Rattle.bid.specs.declared.Bid.{Bid}
 
 -- A LINE UNDER ITS KEY
 
 -- What the line comes to, whatever its value means.
-abbrev pub value_under : List ℕ → (List ℕ → Value) → Keyed → Lines.Reading
-value_under s meant (Keyed.Value start end) =
-    before (meant (take (end - start) (drop start s))) (lines (drop (end + 1) s))
-value_under s meant Keyed.NoSuchLine = bad no_such_line
+abbrev pub value_under : List ℕ → (List ℕ → Value) → Result (Bor (List ℕ) × ℕ) Refusal → Reading
+value_under s meant (Ok (value, next)) = before (meant value.now) (lines (drop next s))
+value_under s meant (Err refusal) = bad (number_of refusal)
 
-abbrev pub Inside : List ℕ → ℕ → Keyed → Type 0
-Inside s at (Keyed.Value start end) = (at ≤ start) × (start ≤ end) × (end < ∣ s ∣)
-Inside s at Keyed.NoSuchLine = Unit
+-- The next line starts behind this one.
+abbrev pub Ahead : {A : Type 0} → List ℕ → ℕ → Result (A × ℕ) Refusal → Type 0
+Ahead s at r = IfOk r (λ p. (at < p.1) × (p.1 ≤ ∣ s ∣))
 
-pub record KeyedAt (s : List ℕ) (at : ℕ) (key : List ℕ) (r : Keyed) : Type 0 where
+pub record KeyedAt (s : List ℕ) (at : ℕ) (key : List ℕ) (r : Result (Bor (List ℕ) × ℕ) Refusal) : Type 0 where
   pub under_key : (meant : List ℕ → Value) → under key meant (lines (drop at s)) ≡ value_under s meant r
-  pub inside : Inside s at r
+  pub ahead : Ahead s at r
 
-abbrev pub policy_case : PolicyValue → Bid.PolicyValue
-policy_case (Policy.Named policy) = named policy
-policy_case Policy.Blank = blank
-policy_case Policy.Unknown = unknown
+-- What a value means, or the refusal that it is wrong by.
+abbrev pub valued : Result ℕ Refusal → Value
+valued (Ok n) = means n
+valued (Err refusal) = wrong (number_of refusal)
 
 -- A LINE'S ANSWER
 
--- The number of its refusal.
-abbrev pub number_of : Reading → ℕ
-number_of (Reading.Good value next) = accepted
-number_of Reading.NoSuchLine = no_such_line
-number_of Reading.TooManyPages = too_many_pages
-number_of Reading.PolicyNotKnown = policy_not_known
-number_of Reading.SizeNotKnown = size_not_known
-number_of Reading.NotInForm = not_in_form
+abbrev pub told : List ℕ → Result (ℕ × ℕ) Refusal → Reading
+told s (Ok (value, next)) = good value (lines (drop next s))
+told s (Err refusal) = bad (number_of refusal)
 
-abbrev pub told : List ℕ → Reading → Lines.Reading
-told s (Reading.Good value next) = good value (lines (drop next s))
-told s Reading.NoSuchLine = bad no_such_line
-told s Reading.TooManyPages = bad too_many_pages
-told s Reading.PolicyNotKnown = bad policy_not_known
-told s Reading.SizeNotKnown = bad size_not_known
-told s Reading.NotInForm = bad not_in_form
-
--- The next line starts behind this one.
-abbrev pub Ahead : List ℕ → ℕ → Reading → Type 0
-Ahead s at (Reading.Good value next) = (at < next) × (next ≤ ∣ s ∣)
-Ahead s at Reading.NoSuchLine = Unit
-Ahead s at Reading.TooManyPages = Unit
-Ahead s at Reading.PolicyNotKnown = Unit
-Ahead s at Reading.SizeNotKnown = Unit
-Ahead s at Reading.NotInForm = Unit
-
-pub record ReadsLine (s : List ℕ) (at : ℕ) (reading : Lines.Reading) (r : Reading) : Type 0 where
+pub record ReadsLine (s : List ℕ) (at : ℕ) (reading : Reading) (r : Result (ℕ × ℕ) Refusal) : Type 0 where
   pub tells : told s r ≡ reading
   pub ahead : Ahead s at r
 
+-- With the line's number beside a refusal.
+abbrev pub at_line : ℕ → Result (ℕ × ℕ) Refusal → Result (ℕ × ℕ) RefusedAt
+at_line line (Ok read) = Ok read
+at_line line (Err refusal) = Err (record { refusal = refusal; line = line })
+
 -- THE PAGE LINES
 
-abbrev pub size_of : Pages → Listed
-size_of (listed pages) = Listed.Pages ∣ pages ∣
-size_of (refused_at number line) = Listed.Refused number line
+pub record PagesCounted (ps : Pages) (count : ℕ) : Type 0 where
+  pub pages : List ℕ
+  pub is_listed : ps ≡ listed pages
+  pub as_many : count ≡ ∣ pages ∣
+
+abbrev pub CountedAs : Pages → Result ℕ RefusedAt → Type 0
+CountedAs ps r = MatchResult r (PagesCounted ps) (λ e. ps ≡ refused_at (number_of e.refusal) e.line)
 
 -- Good page lines, from a place on, written into a buffer.
 abbrev pub PagesFilled : List ℕ → ℕ → List ℕ → List ℕ → Type 0
@@ -82,11 +63,12 @@ PagesFilled s start w w' = (pages : List ℕ) → pages_from 0 (lines (drop star
 
 -- THE SHEET BEFORE ITS PAGES ARE WRITTEN
 
--- A refused sheet has no page lines.
-abbrev pub refused_judged : ℕ → ℕ → Judged
-refused_judged number line = record { bid = refused_bid number line; start = 0 }
+-- The meaning is the bid with some pages, and the page lines that list them start at the place.
+pub record JudgedGood (s : List ℕ) (m : Meaning) (b : Bid) (start : ℕ) : Type 0 where
+  pub pages : List ℕ
+  pub meaning_is : m ≡ bid (record { policy = b.policy; c = b.c; cost = b.cost; pages = pages })
+  pub count_is : b.count ≡ ∣ pages ∣
+  pub pages_there : pages_from 0 (lines (drop start s)) ≡ listed pages
 
--- The answer is the meaning's, and the page lines of an accepted sheet start at the place.
-pub record JudgedAs (s : List ℕ) (m : Bid.Meaning) (r : Judged) : Type 0 where
-  pub answer_is : r.bid ≡ bid_of m
-  pub pages_there : (b : Bid.Bid) → m ≡ bid b → pages_from 0 (lines (drop r.start s)) ≡ listed b.pages
+abbrev pub JudgedAs : List ℕ → Meaning → Result (Bid × ℕ) RefusedAt → Type 0
+JudgedAs s m r = MatchResult r (λ p. JudgedGood s m p.0 p.1) (λ e. m ≡ refused (number_of e.refusal) e.line)

@@ -6,70 +6,44 @@ ghost use Rattle.std.specs.Prelude.{◌≡◌, ◌≤◌, length, drop};
 ghost use Rattle.sheets.specs.Number.{means};
 ghost use Rattle.sheets.specs.Lines.{lines};
 ghost use Rattle.sheets.specs.Bid.{pages_from, meaning_where};
-ghost use Rattle.bid.specs.Answers.{size_of, PagesFilled, refused_judged, JudgedAs};
+ghost use Rattle.bid.specs.Answers.{at_line, CountedAs, PagesFilled, JudgedAs};
 ghost use Rattle.bid.specs.Promises.{BidJudged, BidRead};
 
 mod keyed_lines;
 
-use keyed_lines::Reading;
-use terms::{limits, policies, refusals};
+use terms::limits;
+use terms::policies::Policy;
+use terms::refusals::{Refusal, RefusedAt};
 
-// The reader's answer; zeros beside the number and line of a refusal.
+// An accepted sheet's words. The policy stays a number: a blank one is whatever number the caller of judge hands in.
 #[derive(Clone, Copy)]
 pub struct Bid {
-    pub number: u32,
-    pub line: u32,
     pub policy: u32,
     pub c: u32,
     pub cost: u32,
     pub count: u32,
 }
 
-// The page lines: how many pages they list, or a refusal's number and line.
-#[derive(Clone, Copy)]
-pub enum Listed {
-    Pages(u32),
-    Refused(u32, u32),
-}
-
-// A sheet before its pages are written: the answer, and where its page lines start.
-#[derive(Clone, Copy)]
-pub struct Judged {
-    pub bid: Bid,
-    pub start: usize,
-}
-
-fn refused(number: u32, line: u32) -> Judged
-    ensures { result ≡ refused_judged number line }
+// A line's answer, its refusal with the line's number.
+fn at_line(read: Result<(u32, usize), Refusal>, line: u32) -> Result<(u32, usize), RefusedAt>
+    ensures { result ≡ at_line line read }
 {
-    Judged {
-        bid: Bid {
-            number,
-            line,
-            policy: 0,
-            c: 0,
-            cost: 0,
-            count: 0,
-        },
-        start: 0,
-    }
+    read.map_err(|refusal| refusal.at(line))
 }
 
 // Counts before any page is written: a wrong line further down leaves the buffer as it was.
-fn count_pages(sheet: &[u8], start: usize) -> Listed
-    ensures { result ≡ size_of (pages_from 0 (lines (drop start sheet.now))) }
+fn count_pages(sheet: &[u8], start: usize) -> Result<u32, RefusedAt>
+    ensures { CountedAs (pages_from 0 (lines (drop start sheet.now))) result }
 {
     let mut at = start;
     let mut count = 0;
     while at < sheet.len() {
         let page = keyed_lines::page_line(sheet, at, count);
-        let Reading::Good(_, next) = page else {
-            return Listed::Refused(keyed_lines::number_of(page), count + 4);
-        };
+        let (_, next) = at_line(page, count + 4)?;
         at = next;
         count += 1;
     }
-    Listed::Pages(count)
+    Ok(count)
 }
 
 // Writes the pages of lines that are known to be good.
@@ -80,7 +54,7 @@ fn fill(sheet: &[u8], start: usize, pages: &mut [u32])
     let mut at = start;
     let mut count = 0;
     while at < sheet.len() {
-        let Reading::Good(page, next) = keyed_lines::page_line(sheet, at, count) else {
+        let Ok((page, next)) = keyed_lines::page_line(sheet, at, count) else {
             return;
         };
         pages[count as usize] = page;
@@ -89,63 +63,44 @@ fn fill(sheet: &[u8], start: usize, pages: &mut [u32])
     }
 }
 
-// Refusal 7, then the lines from the top: the first that is wrong decides. A blank policy is read as `blank`.
-fn judge_sheet(sheet: &[u8], blank: u32) -> Judged
+// Refusal 7, then the lines from the top: the first that is wrong decides. A blank policy is read as `blank`. Beside the
+// bid stands where its page lines start.
+fn judge_sheet(sheet: &[u8], blank: u32) -> Result<(Bid, usize), RefusedAt>
     ensures { JudgedAs sheet.now (meaning_where (means blank) sheet.now) result }
 {
     if limits::MOST_SHEET_BYTES < sheet.len() {
-        return refused(refusals::SHEET_TOO_LONG, 0);
+        return Err(Refusal::SheetTooLong.at(0));
     }
-    let policy_read = keyed_lines::policy_line(sheet, 0, blank);
-    let Reading::Good(policy, second) = policy_read else {
-        return refused(keyed_lines::number_of(policy_read), 1);
+    let (policy, second) = at_line(keyed_lines::policy_line(sheet, 0, blank), 1)?;
+    let (c, third) = at_line(keyed_lines::size_line(sheet, second), 2)?;
+    let (cost, fourth) = at_line(keyed_lines::cost_line(sheet, third), 3)?;
+    let count = count_pages(sheet, fourth)?;
+    let bid = Bid {
+        policy,
+        c,
+        cost,
+        count,
     };
-    let size_read = keyed_lines::size_line(sheet, second);
-    let Reading::Good(c, third) = size_read else {
-        return refused(keyed_lines::number_of(size_read), 2);
-    };
-    let cost_read = keyed_lines::cost_line(sheet, third);
-    let Reading::Good(cost, fourth) = cost_read else {
-        return refused(keyed_lines::number_of(cost_read), 3);
-    };
-    let listed = count_pages(sheet, fourth);
-    match listed {
-        Listed::Refused(number, line) => refused(number, line),
-        Listed::Pages(count) => Judged {
-            bid: Bid {
-                number: refusals::ACCEPTED,
-                line: 0,
-                policy,
-                c,
-                cost,
-                count,
-            },
-            start: fourth,
-        },
-    }
+    Ok((bid, fourth))
 }
 
-// Judges a bid sheet, in a reading where a blank policy means `blank`: the reader's answer, for callers that want no
-// pages.
-pub fn judge(sheet: &[u8], blank: u32) -> Bid
+// Judges a bid sheet, in a reading where a blank policy means `blank`, any number: the reader's answer, for callers that
+// want no pages.
+pub fn judge(sheet: &[u8], blank: u32) -> Result<Bid, RefusedAt>
     ensures { BidJudged sheet.now blank result }
 {
-    let judged = judge_sheet(sheet, blank);
-    judged.bid
+    let (bid, _) = judge_sheet(sheet, blank)?;
+    Ok(bid)
 }
 
 // Reads a bid sheet, a blank policy as cart: refusals 6 and 7, then the lines from the top.
-pub fn read(sheet: &[u8], pages: &mut [u32]) -> Bid
+pub fn read(sheet: &[u8], pages: &mut [u32]) -> Result<Bid, RefusedAt>
     ensures { BidRead sheet.now pages.old result pages.new }
 {
     if pages.len() < limits::MOST_PAGES {
-        let short = refused(refusals::BUFFER_TOO_SHORT, 0);
-        return short.bid;
+        return Err(Refusal::BufferTooShort.at(0));
     }
-    let judged = judge_sheet(sheet, policies::CART);
-    if judged.bid.number != refusals::ACCEPTED {
-        return judged.bid;
-    }
-    fill(sheet, judged.start, pages);
-    judged.bid
+    let (bid, start) = judge_sheet(sheet, u32::from(Policy::Cart))?;
+    fill(sheet, start, pages);
+    Ok(bid)
 }
