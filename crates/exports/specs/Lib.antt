@@ -1,0 +1,2 @@
+-- What the functions for C promise, over the structs that C has.
+pub mod Promises
