@@ -7,107 +7,72 @@ mod sheet_calls;
 mod trace_calls;
 mod wire;
 
+use crate::wire::Wire;
 use std::io::Read;
 use std::process::ExitCode;
+use streams::Failed;
 
-// What came of a call.
-#[derive(Clone, Copy)]
-enum Called {
-    Answered,
-    End,
-    Failed,
+const MOST_CALLS: u32 = 100000;
+
+// The memory that calls lend: enough for each.
+#[derive(Drop)]
+pub struct Memory {
+    dir: [u32; 4200],
+    pages: [u32; 1100],
+    answers: [u32; 4500],
+    sheet: [u8; 17000],
+    out: [u8; 400],
 }
 
-// A call that was read up to its operation: the rest is read, made and answered. False where that failed.
+// A call that was read up to its operation: the rest is read, made and answered. The operation is a number that comes
+// from outside, so that a match tells which call it is.
 fn answer(
-    rt: &(impl Print + Eprint),
-    input: &mut impl Read,
-    op: u32,
-    dir: &mut [u32],
-    pages: &mut [u32],
-    answers: &mut [u32],
-    sheet: &mut [u8],
-    out: &mut [u8],
-    raw: &mut [u8],
-) -> bool {
-    match op {
-        1 => directory_calls::fresh(rt, input, dir, raw),
-        2 => directory_calls::check(rt, input, dir, raw),
-        3 => directory_calls::request(rt, input, dir, raw),
-        4 => directory_calls::run(rt, input, dir, pages, answers, raw),
-        5 => sheet_calls::read_bid(rt, input, sheet, pages, raw),
-        6 => sheet_calls::look_up(rt, input, sheet, raw),
-        7 => sheet_calls::write_result(rt, input, out, raw),
-        8 => trace_calls::take_pages(rt, input, sheet, pages, raw),
-        _ => wire::unreadable(rt),
+    wire: &mut Wire<impl Print + Eprint, impl Read>,
+    operation: u32,
+    memory: &mut Memory,
+) -> Result<(), Failed> {
+    match operation {
+        1 => directory_calls::fresh(wire, memory),
+        2 => directory_calls::check(wire, memory),
+        3 => directory_calls::request(wire, memory),
+        4 => directory_calls::run(wire, memory),
+        5 => sheet_calls::read_bid(wire, memory),
+        6 => sheet_calls::look_up(wire, memory),
+        7 => sheet_calls::write_result(wire, memory),
+        8 => trace_calls::take_pages(wire, memory),
+        _ => Err(wire.unreadable()),
     }
 }
 
-fn call(
-    rt: &(impl Print + Eprint),
-    input: &mut impl Read,
-    dir: &mut [u32],
-    pages: &mut [u32],
-    answers: &mut [u32],
-    sheet: &mut [u8],
-    out: &mut [u8],
-    raw: &mut [u8],
-) -> Called {
-    let next = wire::read_op(rt, input);
-    match next {
-        wire::Op::End => Called::End,
-        wire::Op::Unreadable => Called::Failed,
-        wire::Op::Is(op) => {
-            if answer(rt, input, op, dir, pages, answers, sheet, out, raw) {
-                Called::Answered
-            } else {
-                Called::Failed
-            }
-        }
-    }
-}
-
-// Answers call after call; the program's status.
+// Answers call after call.
 fn calls(
-    rt: &(impl Print + Eprint),
-    input: &mut impl Read,
-    dir: &mut [u32],
-    pages: &mut [u32],
-    answers: &mut [u32],
-    sheet: &mut [u8],
-    out: &mut [u8],
-    raw: &mut [u8],
-) -> ExitCode {
-    let mut left: u32 = 100000;
-    while left > 0 {
-        let called = call(rt, input, dir, pages, answers, sheet, out, raw);
-        match called {
-            Called::Answered => left -= 1,
-            Called::End => return ExitCode::SUCCESS,
-            Called::Failed => return ExitCode::FAILURE,
-        }
+    wire: &mut Wire<impl Print + Eprint, impl Read>,
+    memory: &mut Memory,
+) -> Result<(), Failed> {
+    for _ in 0..MOST_CALLS {
+        let Some(operation) = wire.operation()? else {
+            return Ok(());
+        };
+        answer(wire, operation, memory)?;
     }
-    ExitCode::SUCCESS
+    Ok(())
 }
 
 // Lends memory that is enough for each call; the program's status.
 pub fn probe(rt: &(impl Print + Eprint), input: &mut impl Read) -> ExitCode {
-    let mut dir = [0u32; 4200];
-    let mut pages = [0u32; 1100];
-    let mut answers = [0u32; 4500];
-    let mut sheet = [0u8; 17000];
-    let mut out = [0u8; 400];
-    let mut raw = [0u8; 68000];
-    calls(
-        rt,
-        input,
-        &mut dir,
-        &mut pages,
-        &mut answers,
-        &mut sheet,
-        &mut out,
-        &mut raw,
-    )
+    let mut memory = Memory {
+        dir: [0; 4200],
+        pages: [0; 1100],
+        answers: [0; 4500],
+        sheet: [0; 17000],
+        out: [0; 400],
+    };
+    let mut raw = [0; 68000];
+    let mut wire = Wire::new(rt, input, &mut raw);
+    match calls(&mut wire, &mut memory) {
+        Ok(()) => ExitCode::SUCCESS,
+        Err(Failed) => ExitCode::FAILURE,
+    }
 }
 
 fn main(rt: HostRuntime) -> ExitCode {
