@@ -13,6 +13,7 @@ ghost use Rattle.council.specs.Promises.{PagesTaken, PagesAnswered};
 
 mod record_lines;
 
+use record_lines::Trace;
 use result::Place;
 use terms::limits;
 use terms::refusals::{Refusal, RefusedAt};
@@ -21,16 +22,17 @@ use terms::refusals::{Refusal, RefusedAt};
 const LISTING: usize = 16 * limits::MOST_PAGES;
 
 // Counts before any page is written: a wrong line further down leaves the buffer as it was.
-fn count_pages(file: &[u8], unit: u32) -> Result<u32, RefusedAt>
-    requires { length file.now ≤ 16000 }
-    ensures { size_in result ≡ size_of (pages_from unit 0 0 (lines file.now)) }
+fn count_pages(trace: Trace<'_>) -> Result<u32, RefusedAt>
+    requires { length trace.file.now ≤ 16000 }
+    ensures { size_in result ≡ size_of (pages_from trace.entry.unit 0 0
+        (lines trace.entry.file.now)) }
 {
     let mut at = 0;
     let mut line = 0;
     let mut count = 0;
-    while at < file.len() {
+    while at < trace.file.len() {
         line += 1;
-        match record_lines::record_line(file, at, unit, count) {
+        match trace.record_line(at, count) {
             Ok(read) => {
                 count += read.count;
                 at = read.next;
@@ -53,14 +55,15 @@ fn put_pages(pages: &mut [u32], at: usize, first: u32, count: u32) -> usize
 }
 
 // Writes the pages of a trace that is known to be good.
-fn fill(file: &[u8], unit: u32, pages: &mut [u32])
+fn fill(trace: Trace<'_>, pages: &mut [u32])
     requires { 1000 ≤ length pages.old }
-    ensures { PagesFilled file.now unit pages.old pages.new }
+    ensures { PagesFilled trace.entry.file.now trace.entry.unit
+        pages.old pages.new }
 {
     let mut at = 0;
     let mut written = 0;
-    while at < file.len() {
-        let Ok(read) = record_lines::record_line(file, at, unit, written as u32) else {
+    while at < trace.file.len() {
+        let Ok(read) = trace.record_line(at, written as u32) else {
             return;
         };
         written = put_pages(pages, written, read.first, read.count);
@@ -79,8 +82,9 @@ pub fn pages(file: &[u8], unit: u32, pages: &mut [u32]) -> Result<u32, RefusedAt
     if limits::MOST_TRACE_BYTES < file.len() {
         return Err(Refusal::SheetTooLong.at(0));
     }
-    let count = count_pages(file, unit)?;
-    fill(file, unit, pages);
+    let trace = Trace { file, unit };
+    let count = count_pages(trace)?;
+    fill(trace, pages);
     Ok(count)
 }
 

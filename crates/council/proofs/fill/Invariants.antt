@@ -7,8 +7,8 @@ abbrev pub invariant-loop-at : goal.invariant-loop-at
 invariant-loop-at l =
     record {
       few : l.written ≤ 1000;
-      writing : Writing l.file l.unit l.at l.written l.fn.pages l.pages;
+      writing : Writing l.trace.file.now l.trace.unit l.at l.written l.fn.pages l.pages;
     }
 
 abbrev pub decreases-loop-at : goal.decreases-loop-at
-decreases-loop-at l = length l.file - l.at
+decreases-loop-at l = length l.trace.file.now - l.at
