@@ -43,7 +43,8 @@ fn count_pages(trace: Trace<'_>) -> Result<u32, RefusedAt>
     Ok(count)
 }
 
-// Puts so many pages in a row from a place on, and answers the place behind them.
+// Puts so many pages in a row from a place on, and answers the place behind them. By their places: the range `first..`,
+// which a zip would take, ends before page 4,294,967,295.
 fn put_pages(pages: &mut [u32], at: usize, first: u32, count: u32) -> usize
     requires { (at + count ≤ length pages.old) × (first + count ≤ 4294967296) }
     ensures { Put pages.old at (numbers_from first count) pages.new result }

@@ -1,4 +1,5 @@
--- Text put at a place, which moves behind it.
+-- Text put at a place of lent bytes, which moves behind it.
+-- The bytes are told by their ghost name, so that their owner learns what was put.
 use Rattle.std.specs.Prelude.{◌≡◌, List, ℕ}
 use Rattle.result.specs.declared.Place.{Place}
 use Rattle.result.specs.Put.{PutFits, Put}
