@@ -4,12 +4,12 @@ use mathlib.Core.Bool.{true}
 use mathlib.Core.List.{List, ◌++◌}
 use Prim.Native.Nat.{ℕ, ◌+◌, ◌-◌, ◌≤◌}
 use native.Mathlib.Omega.{arith}
-use lib.ListN.{take, drop, length-drop}
-use lib.Seq.{take_all}
+use lib.ListN.{take, drop}
 use Rattle.terms.specs.Choice.{∣◌∣}
 use Rattle.text.specs.Text.{bytes}
 use Rattle.text.proofs.Text.{starts_fits}
 use Rattle.sheets.specs.Copy.{blank_policy, behind_key, with_car}
+use Rattle.sheets.proofs.Places.{bytes_from}
 use Rattle.result.specs.Put.{Put}
 use Rattle.result.proofs.Putting.{both, put_as}
 use Rattle.copying.specs.Promises.{RoomForCar}
@@ -25,7 +25,6 @@ from i s = take (∣ s ∣ - i) (drop i s)
 pub car_put : (s : List ℕ) {out out₁ out₂ out₃ : List ℕ} {n₁ n₂ n₃ : ℕ} → Put out 0 (take behind_key s) out₁ n₁
     → Put out₁ n₁ (bytes "car") out₂ n₂ → Put out₂ n₂ (from behind_key s) out₃ n₃ → Put out 0 (with_car s) out₃ n₃
 car_put s key name behind =
-    put_as (ap (λ (t : List ℕ). take behind_key s ++ (bytes "car" ++ t)) (sym all_of_it)) (both key (both name behind))
-  where
-    all_of_it : from behind_key s ≡ drop behind_key s
-    all_of_it = take_all (∣ s ∣ - behind_key) (drop behind_key s) (omega (arith, length-drop behind_key s))
+    put_as
+    (ap (λ (t : List ℕ). take behind_key s ++ (bytes "car" ++ t)) (sym (bytes_from s behind_key)))
+    (both key (both name behind))

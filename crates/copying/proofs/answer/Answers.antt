@@ -3,9 +3,8 @@ use Rattle.std.proofs.Common.{arith}
 use Rattle.copying.proofs.Printing.{copy_printed, refusal_printed}
 use Rattle.copying.proofs.answer.Goals as goal
 
-pub returns-then-copied-ne-ACCEPTED : goal.returns-then-copied-ne-ACCEPTED
-returns-then-copied-ne-ACCEPTED c =
-    refusal_printed _ _ (omega arith) c.copy-copied.ensures (omega arith) c.write_refusal.ensures
+pub returns-in-Ok : goal.returns-in-Ok
+returns-in-Ok c = copy_printed _ _ (omega arith) c.in-Ok.ensures
 
-pub returns : goal.returns
-returns c = copy_printed _ _ (omega arith) c.copy-copied.ensures (omega arith)
+pub returns-in-Err : goal.returns-in-Err
+returns-in-Err c = refusal_printed _ _ (omega arith) _ c.in-Err.ensures c.into.ensures c.write_refusal.ensures
