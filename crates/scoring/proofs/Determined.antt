@@ -1,20 +1,24 @@
 -- Two outcomes that a promise allows are equal: the answer and all lent memory afterwards.
-use mathlib.Core.Path.{◌≡◌, sym, ◌∙◌}
+use mathlib.Core.Path.{◌≡◌, sym, ap, ◌∙◌}
 use mathlib.Core.List.{List}
 use Prim.Native.Nat.{ℕ}
+use Rattle.terms.proofs.Numbers.{same_answer_at}
 use Rattle.scoring.specs.declared.Scored.{Scored}
 use Rattle.scoring.specs.Refusals.{Scoring, on_score, on_ledger}
-use Rattle.scoring.specs.Promises.{ScoredAs, SheetScored, SheetLedgered}
+use Rattle.scoring.specs.Promises.{requests_of, ScoredAs, SheetScored, SheetLedgered}
 
 answers_determined : (d : Scoring) {pages₁ dir₁ answers₁ out₁ pages₂ dir₂ answers₂ out₂ : List ℕ} {r s : Scored}
     → ScoredAs d r pages₁ dir₁ answers₁ out₁ → ScoredAs d s pages₂ dir₂ answers₂ out₂
     → (r ≡ s) × (pages₁ ≡ pages₂) × (dir₁ ≡ dir₂) × (answers₁ ≡ answers₂) × (out₁ ≡ out₂)
 answers_determined d {r = r} {s} a b =
-    let number : r.number ≡ s.number = a.number_is ∙ sym b.number_is in
-    let line : r.line ≡ s.line = a.line_is ∙ sym b.line_is in
-    let count : r.count ≡ s.count = a.count_is ∙ sym b.count_is in
-    let requests : r.requests ≡ s.requests = a.requests_are ∙ sym b.requests_are in (
-      λ i. record { number = number i; line = line i; count = count i; requests = requests i },
+    let number = a.number_is ∙ sym b.number_is in
+    let line = a.line_is ∙ sym b.line_is in
+    let requests = a.requests_are ∙ sym b.requests_are in
+    let served : r.served ≡ s.served
+    = same_answer_at r.served s.served number line
+    (λ n m is is'. ap requests_of (sym is) ∙ requests ∙ ap requests_of is') in
+    let count : r.count ≡ s.count = a.count_is ∙ sym b.count_is in (
+      λ i. record { served = served i; count = count i },
       a.pages_are ∙ sym b.pages_are,
       a.dir_is ∙ sym b.dir_is,
       a.answers_are ∙ sym b.answers_are,

@@ -15,19 +15,19 @@ use Rattle.result.proofs.Putting.{both, put_over}
 use Rattle.scoring.specs.declared.Scored.{Scored}
 use Rattle.scoring.specs.Scored.{replayed, scored, ledger_lines, request_lines, ledgered}
 use Rattle.scoring.specs.Refusals.{answered}
-use Rattle.scoring.specs.Promises.{ScoredAs}
+use Rattle.scoring.specs.Promises.{requests_of, ScoredAs}
 use Rattle.scoring.specs.Ready.{TextOver, Lent, Requests, AnsweredWith}
 use Rattle.scoring.proofs.Lines.{four_words}
 use Rattle.scoring.proofs.Writing.{over_fits, PutWithin, part_put}
 
 -- What the scoring leaves for the ledger: requests whose lines are those of the sheet's meaning; and its text.
 pub record LeftForLedger (m : Meaning) (text out : List ℕ) (r : Scored) (pages' answers' out' : List ℕ) : Type 0 where
-  pub lines_are : ledger_lines 1 (take r.requests pages') (take (4 * r.requests) answers') ≡ request_lines m
+  pub lines_are : ledger_lines 1 (take (requests_of r.served) pages') (take (4 * requests_of r.served) answers') ≡ request_lines m
   pub text_over : TextOver text out r.count out'
 
 -- The same answer with another text, over other bytes.
 abbrev pub counting : Scored → ℕ → Scored
-counting r count = record { number = r.number; line = r.line; count = count; requests = r.requests }
+counting r count = record { served = r.served; count = count }
 
 module _ (text pages dir answers out : List ℕ) {r : Scored} {pages' dir' answers' out' : List ℕ} where
   served : (m : Meaning) → ScoredAs (answered m text pages dir answers out) r pages' dir' answers' out'
@@ -35,14 +35,14 @@ module _ (text pages dir answers out : List ℕ) {r : Scored} {pages' dir' answe
   unfolding request_lines ledger_lines
   served (bid b) a =
       let many = a.requests_are in
-      let words : ∣ (replayed b).answers ∣ ≡ 4 * r.requests
+      let words : ∣ (replayed b).answers ∣ ≡ 4 * requests_of r.served
       = four_words zero_tally b.pages (fresh b.policy b.c) ∙ ap (λ (n : ℕ). 4 * n) (sym many) in
       record {
         lines_are = rw (
           a.pages_are,
           a.answers_are,
-          take_at b.pages _ r.requests (sym many),
-          take_at (replayed b).answers _ (4 * r.requests) words,
+          take_at b.pages _ (requests_of r.served) (sym many),
+          take_at (replayed b).answers _ (4 * requests_of r.served) words,
         );
         text_over = record { count_is = a.count_is; out_is = a.out_is };
       }
@@ -76,10 +76,10 @@ module _ {s pages dir answers out : List ℕ} (lent : Lent (256 * 1001) pages di
   sheet_put = part_put out (scored s) part 0 256 (omega (arith, lent.out_fits)) sheet_served.text_over same
 
   pub requests_ready : ∣ pages' ∣ ≡ ∣ pages ∣ → ∣ answers' ∣ ≡ ∣ answers ∣
-      → Requests r.count (take r.requests pages') (take (4 * r.requests) answers') (part ++ drop 256 out)
+      → Requests r.count (take (requests_of r.served) pages') (take (4 * requests_of r.served) answers') (part ++ drop 256 out)
   requests_ready pages-same answers-same =
-      let many = length-take-le r.requests pages' (omega (arith, h.few, lent.pages_fit)) in
-      let words = length-take-le (4 * r.requests) answers' (omega (arith, h.few, lent.answers_fit)) in
+      let many = length-take-le (requests_of r.served) pages' (omega (arith, h.few, lent.pages_fit)) in
+      let words = length-take-le (4 * requests_of r.served) answers' (omega (arith, h.few, lent.answers_fit)) in
       record {
         few = omega (arith, many, h.few);
         answers_there = omega (arith, many, words);
@@ -89,7 +89,7 @@ module _ {s pages dir answers out : List ℕ} (lent : Lent (256 * 1001) pages di
 
   pub sheet_ledgered : {out' : List ℕ} {next : ℕ}
       → Put (part ++ drop 256 out) r.count
-      (ledger_lines 1 (take r.requests pages') (take (4 * r.requests) answers')) out' next
+      (ledger_lines 1 (take (requests_of r.served) pages') (take (4 * requests_of r.served) answers')) out' next
       → AnsweredWith (ledgered s) s pages dir answers out (counting r next) pages' dir' answers' out'
   unfolding ledgered
   sheet_ledgered {out'} {next} put =

@@ -8,7 +8,7 @@ use Rattle.terms.proofs.Tests.{reads}
 use Rattle.scoring.specs.declared.Scored.{Scored}
 use Rattle.scoring.specs.Refusals.{enough, on_sheet}
 use Rattle.scoring.specs.Promises.{ScoredAs}
-use Rattle.scoring.specs.Ready.{refused_scored, Lent, AnsweredWith}
+use Rattle.scoring.specs.Ready.{too_little, Lent, AnsweredWith}
 
 module _ (least : ℕ) {pages dir answers out : List ℕ} {told : Bool}
     (is : told ≡ enough least pages dir answers out) where
@@ -18,7 +18,7 @@ module _ (least : ℕ) {pages dir answers out : List ℕ} {told : Bool}
       let said = simp reads at (sym is ∙ h) in
       record { pages_fit = said.0; dir_fits = said.1.0; answers_fit = said.1.1.0; out_fits = said.1.1.1 }
 
-  pub short_answers : (text sheet : List ℕ) {r : Scored} → told ≡ false → r ≡ refused_scored 6 0 0
+  pub short_answers : (text sheet : List ℕ) {r : Scored} → told ≡ false → r ≡ too_little
       → ScoredAs (on_sheet text least sheet pages dir answers out) r pages dir answers out
   unfolding on_sheet
   short_answers text sheet h e = rw (sym is ∙ h, e) (search rules)

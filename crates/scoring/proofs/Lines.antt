@@ -1,4 +1,6 @@
 -- A ledger's lines: one put from a place on, and all put one after another.
+use Rattle.std.specs.Prelude.{Result, Ok}
+use Rattle.std.specs.Result.{IsOk}
 use mathlib.Core.Path.{◌≡◌, refl, ◌∙◌}
 use mathlib.Core.List.{List, [], ◌∷◌, ◌++◌}
 use Prim.Native.Nat.{ℕ, ◌+◌, ◌-◌, ◌*◌, ◌≤◌, ◌<◌}
@@ -8,17 +10,17 @@ use native.Mathlib.Omega.{arith}
 use lib.ListN.{get_or, take, drop, length-append, length-drop, drop_of_length-le}
 use lib.Seq.{drop-cons, drop-drop, get_or-drop, length-take-le}
 use Rattle.terms.specs.Choice.{∣◌∣}
+use Rattle.terms.specs.declared.refusals.Refusal.{Refusal}
 use Rattle.figures.specs.Directory.{Directory}
 use Rattle.figures.specs.Request.{request}
 use Rattle.figures.specs.Run.{Tally, noted, run_from}
-use Rattle.result.specs.declared.Written.{Written}
-use Rattle.result.specs.Ledger.{request_line}
+use Rattle.result.specs.declared.Request.{Request as Written}
 use Rattle.result.specs.Put.{Put}
-use Rattle.result.specs.Promises.{Wrote, on_write_text}
+use Rattle.result.specs.Promises.{line_for, WroteRequest}
 use Rattle.result.proofs.Putting.{none_put, both, put_as}
 use Rattle.scoring.specs.Scored.{ledger_line, ledger_lines}
 use Rattle.scoring.specs.Ready.{Request, LinePut}
-use Rattle.scoring.proofs.Writing.{text_over, part_put}
+use Rattle.scoring.proofs.Writing.{text_written, text_over, part_put}
 
 -- Four words an answer.
 pub four_words : (t : Tally) (trace : List ℕ) (d : Directory) → ∣ (run_from t trace d).answers ∣ ≡ 4 * ∣ trace ∣
@@ -39,27 +41,42 @@ pub record AnswerPlaces (i number kind evicted list moves : ℕ) : Type 0 where
 
 -- One line, written into the 256 bytes from a place on.
 module _ {i at : ℕ} {pages answers out : List ℕ} (h : Request i at pages answers out) where
-  abbrev written : ℕ → ℕ → ℕ → ℕ → ℕ → List ℕ
+  abbrev written : ℕ → ℕ → ℕ → ℕ → ℕ → Written
   written number kind evicted list moves =
       let word : ℕ → ℕ = λ place. get_or answers place 0 in
-      request_line number (get_or pages i 0) (word kind) (word evicted) (word list) (word moves)
+      record {
+        request = number;
+        page = get_or pages i 0;
+        kind = word kind;
+        evicted = word evicted;
+        list = word list;
+        moves = word moves;
+      }
 
   its_line : {number kind evicted list moves : ℕ} → AnswerPlaces i number kind evicted list moves
-      → ledger_line (i + 1) (get_or pages i 0) (drop (4 * i) answers) ≡ written number kind evicted list moves
+      → ledger_line (i + 1) (get_or pages i 0) (drop (4 * i) answers) ≡ line_for (written number kind evicted list moves)
   its_line p = simp (p.number_is, p.kind_at, p.evicted_at, p.list_at, p.moves_at, get_or-drop, add-zero)
 
   -- As many bytes as the code lends, from the place on to the place and 256.
   abbrev lent : ℕ
   lent = at + 256 - at
 
-  pub line_put : {number kind evicted list moves : ℕ} {r : Written} {part : List ℕ}
-      → Wrote (on_write_text (written number kind evicted list moves) (take lent (drop at out))) r part
-      → AnswerPlaces i number kind evicted list moves → ∣ part ∣ ≡ ∣ take lent (drop at out) ∣
-      → LinePut i at pages answers out (at + r.count) (take at out ++ (part ++ drop lent (drop at out)))
-  line_put {number} {kind} {evicted} {list} {moves} {part = part} wrote places same =
-      let line = written number kind evicted list moves in
+  room : 256 ≤ ∣ take lent (drop at out) ∣
+  room =
       let long = length-take-le lent (drop at out) (omega (arith, h.out_fits, length-drop at out)) in
-      let over = text_over line (take lent (drop at out)) wrote (omega (arith, long)) in
+      omega (arith, long)
+
+  pub line_written : (request : Written) {r : Result ℕ Refusal} {part : List ℕ}
+      → WroteRequest request (take lent (drop at out)) r part → IsOk r
+  line_written request wrote = text_written (line_for request) (take lent (drop at out)) room wrote
+
+  pub line_put : {number kind evicted list moves : ℕ} {r : Result ℕ Refusal} {count : ℕ} {part : List ℕ}
+      → WroteRequest (written number kind evicted list moves) (take lent (drop at out)) r part → r ≡ Ok count
+      → AnswerPlaces i number kind evicted list moves → ∣ part ∣ ≡ ∣ take lent (drop at out) ∣
+      → LinePut i at pages answers out (at + count) (take at out ++ (part ++ drop lent (drop at out)))
+  line_put {number} {kind} {evicted} {list} {moves} {part = part} wrote is places same =
+      let line = line_for (written number kind evicted list moves) in
+      let over = text_over line (take lent (drop at out)) room wrote is in
       let put = part_put out line part at lent (omega (arith, h.out_fits)) over same in
       record { line_put = put_as (its_line places) put.is_put; not_far = omega (arith, put.not_far) }
 

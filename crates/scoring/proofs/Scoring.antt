@@ -1,4 +1,6 @@
 -- A bid scored, and a sheet scored, by the promises of the reader, the run and the writers.
+use Rattle.std.specs.Prelude.{Result, Ok, Err}
+use Rattle.std.specs.Result.{IsOk}
 use mathlib.Core.Path.{◌≡◌, refl, sym, ap, subst, ◌∙◌}
 use mathlib.Core.List.{List, ◌++◌}
 use Prim.Native.Nat.{ℕ, ◌+◌, ◌*◌, ◌≤◌}
@@ -7,6 +9,9 @@ use lib.ListN.{take, drop}
 use lib.Seq.{length-take-le}
 use Rattle.terms.specs.Choice.{∣◌∣}
 use Rattle.terms.specs.Policies.{cart}
+use Rattle.terms.specs.Refusals.{number_of}
+use Rattle.terms.specs.declared.refusals.Refusal.{Refusal}
+use Rattle.terms.specs.declared.refusals.RefusedAt.{RefusedAt}
 use Rattle.figures.specs.Run as Run
 use Rattle.figures.specs.Words.{encode}
 use Rattle.tally.specs.declared.Tally.{Tally}
@@ -17,14 +22,14 @@ use Rattle.sheets.proofs.Bids.{bids_in_range}
 use Rattle.bid.specs.declared.Bid.{Bid}
 use Rattle.bid.specs.Promises.{BidRead}
 use Rattle.result.specs.declared.Outcome.{Outcome}
-use Rattle.result.specs.declared.Written.{Written}
 use Rattle.result.specs.Promises.{WroteSheet, WroteRefusal}
 use Rattle.scoring.specs.declared.Scored.{Scored}
+use Rattle.scoring.specs.Promises.{requests_of}
 use Rattle.scoring.specs.Scored.{outcome, replayed, printed, scored}
-use Rattle.scoring.specs.Ready.{refused_scored, Fitting, RanFresh, Lent, GoodBid, meant}
+use Rattle.scoring.specs.Ready.{Fitting, RanFresh, Lent, GoodBid, meant}
 use Rattle.scoring.specs.Ready.{TextOver, BidScored, AnsweredWith}
 use Rattle.scoring.proofs.Reading.{Accepted, sheet_refused, sheet_accepted}
-use Rattle.scoring.proofs.Writing.{sheet_over, text_over, over_fits}
+use Rattle.scoring.proofs.Writing.{sheet_written, sheet_over, text_written, text_over, over_fits}
 
 -- What `score_bid` hands the writer.
 abbrev handed : Bid → Tally → ℕ → Outcome
@@ -54,50 +59,57 @@ module _ {b : Bid} {pages dir answers out : List ℕ} (h : GoodBid b pages dir a
         room = omega (arith, h.few, many, h.lent.answers_fit);
       }
 
-  pub bid_scored : {t : Tally} {w answers' out' : List ℕ} {wait : ℕ} {r : Written}
+  pub handed_written : (t : Tally) (wait : ℕ) {out' : List ℕ} {r : Result ℕ Refusal}
+      → WroteSheet (handed b t wait) out r out' → IsOk r
+  handed_written t wait wrote = sheet_written (handed b t wait) out h.policy-known h.lent.out_fits wrote
+
+  pub bid_scored : {t : Tally} {w answers' out' : List ℕ} {wait : ℕ} {r : Result ℕ Refusal} {count : ℕ}
       → RanFresh b.policy b.c (take b.count pages) answers t w answers'
       → ∣ w ∣ ≡ ∣ take (8 + 4 * b.c) dir ∣
       → wait ≡ t.misses * b.cost
-      → WroteSheet (handed b t wait) out r out'
-      → BidScored b pages dir answers out (record { number = 0; line = 0; count = r.count; requests = b.count })
+      → WroteSheet (handed b t wait) out r out' → r ≡ Ok count
+      → BidScored b pages dir answers out (record { served = Ok b.count; count = count })
       (w ++ drop (8 + 4 * b.c) dir) answers' out'
   unfolding printed
-  bid_scored {t} {w} {out' = out'} {wait} {r} ran same is wrote =
-      let front = sheet_over (handed b t wait) out wrote h.policy-known h.lent.out_fits in
+  bid_scored {t} {w} {out' = out'} {wait} {count = count} ran same is wrote counted =
+      let front = sheet_over (handed b t wait) out h.policy-known h.lent.out_fits wrote counted in
       let long : ∣ encode (replayed (meant b pages)).dir ∣ ≡ 8 + 4 * b.c
       = ap ∣◌∣ (sym ran.words_are) ∙ same ∙ dir_part in
       record {
-        number_is = refl;
-        line_is = refl;
-        requests_are = refl;
+        served_is = refl;
         dir_is =
             ap (λ (v : List ℕ). v ++ drop (8 + 4 * b.c) dir) ran.words_are
             ∙ ap (λ (n : ℕ). encode (replayed (meant b pages)).dir ++ drop n dir) (sym long);
         answers_are = ran.answers_are;
         prints =
             subst
-            (λ (x : Run.Tally). TextOver (result_sheet (outcome (meant b pages) x)) out r.count out')
+            (λ (x : Run.Tally). TextOver (result_sheet (outcome (meant b pages) x)) out count out')
             ran.tally_is
             (rw is at front);
       }
 
 module _ (s : List ℕ) {pages dir answers out : List ℕ} (lent : Lent 256 pages dir answers out)
-    {b : Bid} {pages' : List ℕ} (read : BidRead s pages b pages') where
-  pub refusal_scored : {out' : List ℕ} {w : Written} {r : Scored} → (b.number ≡ 0 → ⊥)
-      → WroteRefusal b.number b.line out w out' → r ≡ refused_scored b.number b.line w.count
-      → AnsweredWith (scored s) s pages dir answers out r pages' dir answers out'
-  unfolding printed scored
-  refusal_scored some wrote is =
-      let told = sheet_refused s pages lent.pages_fit b pages' read some in
-      let front = text_over (refused_sheet b.number b.line) out wrote lent.out_fits in
-      record {
-        answer_is = rw (told.means_refusal, is) (search (over_fits front, front, told));
-        few = rw is (omega arith);
-      }
+    {pages' : List ℕ} where
+  module _ {e : RefusedAt} (read : BidRead s pages (Err e) pages') where
+    pub refusal_written : {out' : List ℕ} {w : Result ℕ Refusal}
+        → WroteRefusal (number_of e.refusal) e.line out w out' → IsOk w
+    refusal_written wrote = text_written (refused_sheet (number_of e.refusal) e.line) out lent.out_fits wrote
 
-  module _ (none : b.number ≡ 0) where
+    pub refusal_scored : {out' : List ℕ} {w : Result ℕ Refusal} {count : ℕ}
+        → WroteRefusal (number_of e.refusal) e.line out w out' → w ≡ Ok count
+        → AnsweredWith (scored s) s pages dir answers out (record { served = Err e; count = count }) pages' dir answers out'
+    unfolding printed scored
+    refusal_scored wrote is =
+        let told = sheet_refused s pages lent.pages_fit pages' e read in
+        let front = text_over (refused_sheet (number_of e.refusal) e.line) out lent.out_fits wrote is in
+        record {
+          answer_is = rw told.means_refusal (search (over_fits front, front, told));
+          few = omega arith;
+        }
+
+  module _ {b : Bid} (read : BidRead s pages (Ok b) pages') where
     accepted : Accepted (meaning s) pages b pages'
-    accepted = sheet_accepted s pages lent.pages_fit b pages' read none
+    accepted = sheet_accepted s pages lent.pages_fit pages' b read
 
     in-range : InRange (meant b pages')
     in-range = bids_in_range cart refl s (meant b pages') accepted.means_bid
@@ -124,5 +136,5 @@ module _ (s : List ℕ) {pages dir answers out : List ℕ} (lent : Lent 256 page
     unfolding scored
     sheet_scored {r = r} h = record {
       answer_is = rw accepted.means_bid (search (over_fits h.prints, accepted));
-      few = omega (arith, h.requests_are, few);
+      few = omega (arith, ap requests_of h.served_is, few);
     }

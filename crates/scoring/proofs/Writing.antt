@@ -1,4 +1,6 @@
 -- What the writers leave of lent bytes that have room: the text over them; and what a part's text is to the whole.
+use Rattle.std.specs.Prelude.{Result, Ok}
+use Rattle.std.specs.Result.{IsOk}
 use mathlib.Core.Path.{◌≡◌, sym, ap, ◌∙◌}
 use mathlib.Core.Bool.{true}
 use mathlib.Core.List.{List, ◌++◌, append_assoc}
@@ -10,12 +12,13 @@ use lib.Seq.{paste, length-take-le, take-length, drop-append-le, drop-drop}
 use borrow.Author.Tests.{le-ltb}
 use Rattle.terms.specs.Choice.{∣◌∣}
 use Rattle.terms.specs.Policies.{known_policy}
+use Rattle.terms.specs.declared.refusals.Refusal.{Refusal}
+use Rattle.terms.proofs.Numbers.{accepted_is_ok}
 use Rattle.sheets.specs.Result.{result_sheet}
 use Rattle.sheets.specs.Refusals.{over}
 use Rattle.result.specs.declared.Outcome.{Outcome}
-use Rattle.result.specs.declared.Written.{Written}
 use Rattle.result.specs.Put.{Put}
-use Rattle.result.specs.Promises.{defined, Wrote, on_write_text, WroteSheet}
+use Rattle.result.specs.Promises.{defined, count_in, Wrote, on_write_text, WroteSheet}
 use Rattle.result.proofs.Putting.{pasted}
 use Rattle.result.proofs.Refused.{sheet_as_text}
 use Rattle.scoring.specs.Ready.{TextOver}
@@ -24,16 +27,25 @@ use Rattle.scoring.specs.Ready.{TextOver}
 pub over_fits : {text out : List ℕ} {count : ℕ} {out' : List ℕ} → TextOver text out count out' → count ≤ ∣ out' ∣
 over_fits {text} {out} h = omega (arith, h.count_is, ap ∣◌∣ h.out_is, length-append text (drop ∣ text ∣ out))
 
-pub text_over : (text out : List ℕ) {out' : List ℕ} {r : Written} → Wrote (on_write_text text out) r out'
-    → 256 ≤ ∣ out ∣ → TextOver text out r.count out'
-unfolding on_write_text
-text_over text out h room =
-    let test = le-ltb ∣ out ∣ 256 room in
-    record { count_is = rw test at h.count_is; out_is = rw test at h.bytes_are }
+module _ (text out : List ℕ) (room : 256 ≤ ∣ out ∣) where
+  pub text_written : {out' : List ℕ} {r : Result ℕ Refusal} → Wrote (on_write_text text out) r out' → IsOk r
+  unfolding on_write_text
+  text_written {r = r} h = accepted_is_ok r (rw (le-ltb ∣ out ∣ 256 room) at h.number_is)
 
-pub sheet_over : (o : Outcome) (out : List ℕ) {out' : List ℕ} {r : Written} → WroteSheet o out r out'
-    → known_policy o.policy ≡ true → 256 ≤ ∣ out ∣ → TextOver (result_sheet (defined o)) out r.count out'
-sheet_over o out h known room = text_over (result_sheet (defined o)) out (rw (sheet_as_text o out known) at h) room
+  pub text_over : {out' : List ℕ} {r : Result ℕ Refusal} {count : ℕ} → Wrote (on_write_text text out) r out'
+      → r ≡ Ok count → TextOver text out count out'
+  unfolding on_write_text
+  text_over h is =
+      let test = le-ltb ∣ out ∣ 256 room in
+      record { count_is = ap count_in (sym is) ∙ (rw test at h.count_is); out_is = rw test at h.bytes_are }
+
+module _ (o : Outcome) (out : List ℕ) (known : known_policy o.policy ≡ true) (room : 256 ≤ ∣ out ∣) where
+  pub sheet_written : {out' : List ℕ} {r : Result ℕ Refusal} → WroteSheet o out r out' → IsOk r
+  sheet_written h = text_written (result_sheet (defined o)) out room (rw (sheet_as_text o out known) at h)
+
+  pub sheet_over : {out' : List ℕ} {r : Result ℕ Refusal} {count : ℕ} → WroteSheet o out r out'
+      → r ≡ Ok count → TextOver (result_sheet (defined o)) out count out'
+  sheet_over h is = text_over (result_sheet (defined o)) out room (rw (sheet_as_text o out known) at h) is
 
 -- A text that has room in a buffer's first k bytes stands over the whole buffer as over those.
 over_part : (text l : List ℕ) (k : ℕ) → ∣ over text (take k l) ∣ ≡ ∣ take k l ∣

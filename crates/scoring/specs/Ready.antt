@@ -1,9 +1,9 @@
 -- What the functions under score and ledger need of what they are lent, and what they make of it.
 -- They are internal: score and ledger ask for nothing.
-use Rattle.std.specs.Prelude.{◌≡◌, true, List, ℕ, ◌+◌, ◌*◌, ◌≤◌, ◌<◌, get_or, take, drop}
+use Rattle.std.specs.Prelude.{◌≡◌, true, List, ℕ, ◌+◌, ◌*◌, ◌≤◌, ◌<◌, get_or, take, drop, Ok, Err}
 use Rattle.terms.specs.Choice.{∣◌∣}
 use Rattle.terms.specs.Policies.{known_policy}
-use Rattle.terms.specs.Refusals.{accepted}
+use Rattle.terms.specs.declared.refusals.Refusal.{Refusal}
 use Rattle.figures.specs.Directory.{fresh}
 use Rattle.figures.specs.Run.{run}
 use Rattle.figures.specs.Words.{encode}
@@ -17,11 +17,11 @@ use Rattle.result.specs.Put.{Put}
 use Rattle.scoring.specs.declared.Scored.{Scored}
 use Rattle.scoring.specs.Scored.{replayed, printed, ledger_line}
 use Rattle.scoring.specs.Refusals.{answered}
-use Rattle.scoring.specs.Promises.{ScoredAs}
+use Rattle.scoring.specs.Promises.{requests_of, ScoredAs}
 
--- A refused call's answer: its number, its line, and how many bytes say so.
-abbrev pub refused_scored : ℕ → ℕ → ℕ → Scored
-refused_scored number line count = record { number = number; line = line; count = count; requests = 0 }
+-- The answer where the lent memory is not enough.
+abbrev pub too_little : Scored
+too_little = record { served = Err (record { refusal = Refusal.BufferTooShort; line = 0 }); count = 0 }
 
 -- A trace that a fresh directory of this policy and size can be lent for, and its answers.
 pub record Fitting (policy c : ℕ) (w trace answers : List ℕ) : Type 0 where
@@ -61,9 +61,7 @@ pub record TextOver (text out : List ℕ) (count : ℕ) (out' : List ℕ) : Type
 
 pub record BidScored (b : Bid) (pages dir answers out : List ℕ) (r : Scored)
     (dir' answers' out' : List ℕ) : Type 0 where
-  pub number_is : r.number ≡ accepted
-  pub line_is : r.line ≡ 0
-  pub requests_are : r.requests ≡ b.count
+  pub served_is : r.served ≡ Ok b.count
   pub dir_is : dir' ≡ over (encode (replayed (meant b pages)).dir) dir
   pub answers_are : answers' ≡ over (replayed (meant b pages)).answers answers
   pub prints : TextOver (printed (bid (meant b pages))) out r.count out'
@@ -72,7 +70,7 @@ pub record BidScored (b : Bid) (pages dir answers out : List ℕ) (r : Scored)
 pub record AnsweredWith (text sheet pages dir answers out : List ℕ) (r : Scored)
     (pages' dir' answers' out' : List ℕ) : Type 0 where
   pub answer_is : ScoredAs (answered (meaning sheet) text pages dir answers out) r pages' dir' answers' out'
-  pub few : r.requests ≤ 1000
+  pub few : requests_of r.served ≤ 1000
 
 -- Request i, counted from 0, with its page and its answer there, and room for its line from a place on.
 pub record Request (i at : ℕ) (pages answers out : List ℕ) : Type 0 where

@@ -7,10 +7,13 @@ ghost use Rattle.result.specs.Put.{Put};
 ghost use Rattle.scoring.specs.Scored.{scored, ledgered, ledger_lines};
 ghost use Rattle.scoring.specs.Refusals.{enough};
 ghost use Rattle.scoring.specs.Ready.{Fitting, RanFresh, GoodBid, BidScored, Lent, AnsweredWith};
-ghost use Rattle.scoring.specs.Ready.{refused_scored, Request, LinePut, Requests};
+ghost use Rattle.scoring.specs.Ready.{too_little, Request, LinePut, Requests};
 ghost use Rattle.scoring.specs.Promises.{SheetScored, SheetLedgered};
 
-use terms::{limits, refusals};
+use bid::Bid;
+use tally::Tally;
+use terms::limits;
+use terms::refusals::{Refusal, RefusedAt};
 
 // The least numbers of lent words: a directory of 1,024 (8 + 4c words), and answers.
 const WORDS: usize = 8 + 4 * limits::MOST_SIZE as usize;
@@ -24,49 +27,34 @@ const LINE: usize = limits::LEAST_RESULT_BYTES;
 
 const LEDGER: usize = (limits::MOST_PAGES + 1) * LINE;
 
-// The number and line of the sheet's refusal, zeros where it is accepted; how many bytes stand in front of out; and how
-// many requests were served: their pages and answers stand in front of the lent words.
+// How many requests were served, whose pages and answers stand in front of the lent words, or why and at which line the
+// sheet is refused; and how many bytes stand in front of out.
 #[derive(Clone, Copy)]
 pub struct Scored {
-    pub number: u32,
-    pub line: u32,
+    pub served: Result<u32, RefusedAt>,
     pub count: usize,
-    pub requests: u32,
-}
-
-// A refused call serves no request.
-fn refused(number: u32, line: u32, count: usize) -> Scored
-    ensures { result ≡ refused_scored number line count }
-{
-    Scored {
-        number,
-        line,
-        count,
-        requests: 0,
-    }
 }
 
 // The trace from a fresh directory.
-fn replay(policy: u32, c: u32, trace: &[u32], dir: &mut [u32], answers: &mut [u32]) -> tally::Tally
+fn replay(policy: u32, c: u32, trace: &[u32], dir: &mut [u32], answers: &mut [u32]) -> Tally
     requires { Fitting policy c dir.old trace.now answers.old }
     ensures { RanFresh policy c trace.now answers.old
         result dir.new answers.new }
 {
-    directory::fresh(policy, c, dir);
-    let ran = directory::run(dir, trace, answers);
-    ran.tally
+    directory::fresh(policy, c, dir).unwrap();
+    directory::run(dir, trace, answers).unwrap()
 }
 
 // Misses at a cost each.
 fn wait(misses: u32, cost: u32) -> u64
     ensures { result ≡ misses * cost }
 {
-    misses as u64 * cost as u64
+    u64::from(misses) * u64::from(cost)
 }
 
 // Replays a good bid, and writes its result sheet.
 fn score_bid(
-    bid: bid::Bid,
+    bid: Bid,
     pages: &[u32],
     dir: &mut [u32],
     answers: &mut [u32],
@@ -77,15 +65,15 @@ fn score_bid(
         result dir.new answers.new out.new }
 {
     let words = 8 + 4 * bid.c as usize;
-    let count = bid.count as usize;
+    let requests = bid.count as usize;
     let t = replay(
         bid.policy,
         bid.c,
-        &pages[..count],
+        &pages[..requests],
         &mut dir[..words],
         answers,
     );
-    let written = result::write(
+    let count = result::write(
         out,
         result::Outcome {
             policy: bid.policy,
@@ -97,12 +85,11 @@ fn score_bid(
             steps: t.moves,
             wait: wait(t.misses, bid.cost),
         },
-    );
+    )
+    .unwrap();
     Scored {
-        number: refusals::ACCEPTED,
-        line: 0,
-        count: written.count,
-        requests: bid.count,
+        served: Ok(bid.count),
+        count,
     }
 }
 
@@ -119,12 +106,17 @@ fn score_sheet(
         pages.old dir.old answers.old out.old
         result pages.new dir.new answers.new out.new }
 {
-    let bid = bid::read(sheet, pages);
-    if bid.number != refusals::ACCEPTED {
-        let written = result::write_refusal(out, bid.number, bid.line);
-        return refused(bid.number, bid.line, written.count);
+    match bid::read(sheet, pages) {
+        Ok(bid) => score_bid(bid, pages, dir, answers, out),
+        Err(refused) => {
+            let number = u32::from(refused.refusal);
+            let count = result::write_refusal(out, number, refused.line).unwrap();
+            Scored {
+                served: Err(refused),
+                count,
+            }
+        }
     }
-    score_bid(bid, pages, dir, answers, out)
 }
 
 // Puts the ledger's line of request i, counted from 0, at a place, and answers the place behind it.
@@ -132,24 +124,16 @@ fn put_request(out: &mut [u8], at: usize, pages: &[u32], answers: &[u32], i: usi
     requires { Request i at pages.now answers.now out.old }
     ensures { LinePut i at pages.now answers.now out.old result out.new }
 {
-    let page = pages[i];
     let word = 4 * i;
-    let kind = answers[word];
-    let evicted = answers[word + 1];
-    let list = answers[word + 2];
-    let moves = answers[word + 3];
-    let number = i as u32 + 1;
-    let end = at + LINE;
-    let written = result::write_request(
-        &mut out[at..end],
-        number,
-        page,
-        kind,
-        evicted,
-        list,
-        moves,
-    );
-    at + written.count
+    let request = result::Request {
+        request: i as u32 + 1,
+        page: pages[i],
+        kind: answers[word],
+        evicted: answers[word + 1],
+        list: answers[word + 2],
+        moves: answers[word + 3],
+    };
+    at + result::write_request(&mut out[at..at + LINE], request).unwrap()
 }
 
 // Puts a line for each request from a place on, and answers the place behind the last.
@@ -159,10 +143,8 @@ fn put_requests(out: &mut [u8], at: usize, pages: &[u32], answers: &[u32]) -> us
         out.new result }
 {
     let mut next = at;
-    let mut i = 0;
-    while i < pages.len() {
+    for i in 0..pages.len() {
         next = put_request(out, next, pages, answers, i);
-        i += 1;
     }
     next
 }
@@ -180,15 +162,20 @@ fn ledger_sheet(
         pages.old dir.old answers.old out.old
         result pages.new dir.new answers.new out.new }
 {
-    let scored = score_sheet(sheet, pages, dir, answers, &mut out[..SHEET]);
-    let requests = scored.requests as usize;
+    let Scored { served, count } = score_sheet(sheet, pages, dir, answers, &mut out[..SHEET]);
+    let requests = served.unwrap_or(0) as usize;
     let words = 4 * requests;
-    let count = put_requests(out, scored.count, &pages[..requests], &answers[..words]);
+    let count = put_requests(out, count, &pages[..requests], &answers[..words]);
+    Scored { served, count }
+}
+
+// An answer where the lent memory is not enough: nothing is printed, and no line of the sheet is to blame.
+fn too_little() -> Scored
+    ensures { result ≡ too_little }
+{
     Scored {
-        number: scored.number,
-        line: scored.line,
-        count,
-        requests: scored.requests,
+        served: Err(Refusal::BufferTooShort.at(0)),
+        count: 0,
     }
 }
 
@@ -214,7 +201,7 @@ pub fn score(
         result pages.new dir.new answers.new out.new }
 {
     if !lends_enough(SHEET, pages, dir, answers, out) {
-        return refused(refusals::BUFFER_TOO_SHORT, 0, 0);
+        return too_little();
     }
     score_sheet(sheet, pages, dir, answers, out)
 }
@@ -232,7 +219,7 @@ pub fn ledger(
         result pages.new dir.new answers.new out.new }
 {
     if !lends_enough(LEDGER, pages, dir, answers, out) {
-        return refused(refusals::BUFFER_TOO_SHORT, 0, 0);
+        return too_little();
     }
     ledger_sheet(sheet, pages, dir, answers, out)
 }

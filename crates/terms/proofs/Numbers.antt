@@ -1,6 +1,7 @@
 -- The refusals by their numbers: no two have one number, and none has that of an accepted call.
 -- So two answers that tell the same numbers, and the same beside them, are the same.
 use Rattle.std.specs.Prelude.{Result, Ok, Err, Option, Some, None}
+use Rattle.std.specs.Result.{IsOk}
 use mathlib.Core.Path.{◌≡◌, refl, sym, ap}
 use mathlib.Core.List.{List, [], ◌∷◌}
 use Prim.Native.Nat.{ℕ}
@@ -43,6 +44,11 @@ number_of_one_to_one r s same = cc (its_number r, its_number s, same)
 
 pub not_accepted : (r : Refusal) → number_of r ≡ 0 → ⊥
 not_accepted r none = cc (its_number r, none_numbered, none)
+
+-- An answer without a number of a refusal's is an accepted one.
+pub accepted_is_ok : {A : Type 0} (r : Result A Refusal) → number_in r ≡ 0 → IsOk r
+accepted_is_ok (Ok answer) none = refl
+accepted_is_ok (Err refusal) none = absurd (not_accepted refusal none)
 
 -- Two answers with one number are equal, if two accepted ones are.
 pub same_answer : {A : Type 0} (r s : Result A Refusal) → number_in r ≡ number_in s
