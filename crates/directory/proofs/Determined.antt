@@ -54,7 +54,7 @@ request_determined {r = r} {s} p q =
     (same_answer r s (p.number_is ∙ sym q.number_is) same, p.words_are ∙ sym q.words_are)
 
 -- The code's tally says all that the definitions' says.
-defined_one_to_one : (t u : Tally) → defined t ≡ defined u → t ≡ u
+pub defined_one_to_one : (t u : Tally) → defined t ≡ defined u → t ≡ u
 defined_one_to_one t u e =
     λ i. record {
       requests = (e i).requests;

@@ -38,11 +38,15 @@ module _ (w : List ℕ) where
   unfolding on_request
   request_words x none = rw none
 
+-- By the number and the words alone, so that it is so of what C is answered too.
+pub request_accepted : (w : List ℕ) (x : ℕ) {w' : List ℕ} → w' ≡ (on_request w x).words → (on_request w x).number ≡ 0
+    → SoundWith x w'
+request_accepted w x words accepted =
+    let none = request_checked w x accepted in
+    subst⁻¹ (SoundWith x) (words ∙ request_words w x none) (request_leaves x (decode w) (accepted_directory w none))
+
 pub request_leaves_page : RequestLeavesPage
-request_leaves_page w x r w' p accepted =
-    let none = request_checked w x (sym p.number_is ∙ accepted) in
-    subst⁻¹ (SoundWith x) (p.words_are ∙ request_words w x none)
-    (request_leaves x (decode w) (accepted_directory w none))
+request_leaves_page w x r w' p accepted = request_accepted w x p.words_are (sym p.number_is ∙ accepted)
 
 module _ (w trace answers : List ℕ) where
   run_accepted : (on_run w trace answers).number ≡ 0 → run_number w trace answers ≡ 0
@@ -63,16 +67,27 @@ module _ (w trace answers : List ℕ) where
   unfolding on_run
   run_words none = rw (none, run_after zero_tally trace (decode w))
 
+pub run_accepted_sound : (w trace answers : List ℕ) {w' : List ℕ} → w' ≡ (on_run w trace answers).words
+    → (on_run w trace answers).number ≡ 0 → sound w' ≡ true
+run_accepted_sound w trace answers words accepted =
+    let none = run_accepted w trace answers accepted in
+    subst⁻¹ (λ (l : List ℕ). sound l ≡ true) (words ∙ run_words w trace answers none)
+    (run_keeps trace (decode w) (run_sound w trace answers none))
+
 pub run_leaves_sound : RunLeavesSound
 run_leaves_sound w trace answers r w' answers' p accepted =
-    let none = run_accepted w trace answers (sym p.number_is ∙ accepted) in
-    subst⁻¹ (λ (l : List ℕ). sound l ≡ true) (p.words_are ∙ run_words w trace answers none)
-    (run_keeps trace (decode w) (run_sound w trace answers none))
+    run_accepted_sound w trace answers p.words_are (sym p.number_is ∙ accepted)
+
+pub run_accepted_last : (w trace : List ℕ) (x : ℕ) (answers : List ℕ) {w' : List ℕ}
+    → w' ≡ (on_run w (trace ++ (x ∷ [])) answers).words → (on_run w (trace ++ (x ∷ [])) answers).number ≡ 0
+    → SoundWith x w'
+run_accepted_last w trace x answers words accepted =
+    let all = trace ++ (x ∷ []) in
+    let none = run_accepted w all answers accepted in
+    let run = words ∙ run_words w all answers none ∙ ap encode (after_append trace (x ∷ []) (decode w)) in
+    subst⁻¹ (SoundWith x) run
+    (request_leaves x (after trace (decode w)) (run_keeps trace (decode w) (run_sound w all answers none)))
 
 pub run_leaves_last_page : RunLeavesLastPage
 run_leaves_last_page w trace x answers r w' answers' p accepted =
-    let all = trace ++ (x ∷ []) in
-    let none = run_accepted w all answers (sym p.number_is ∙ accepted) in
-    let words = p.words_are ∙ run_words w all answers none ∙ ap encode (after_append trace (x ∷ []) (decode w)) in
-    subst⁻¹ (SoundWith x) words
-    (request_leaves x (after trace (decode w)) (run_keeps trace (decode w) (run_sound w all answers none)))
+    run_accepted_last w trace x answers p.words_are (sym p.number_is ∙ accepted)

@@ -177,7 +177,7 @@ fn step(dir: &mut [u32], page: u32, answers: &mut [u32], at: usize, t: Tally) ->
     tally::counted(t, served)
 }
 
-// The tally of a run that serves nothing. (Tally derives no Default: the crate tally says no more than its counts.)
+// The tally of a run that serves nothing. It stays as long as the crate tally derives no Default.
 pub fn no_tally() -> Tally
     ensures { defined result ≡ zero_tally }
 {
@@ -191,7 +191,7 @@ pub fn no_tally() -> Tally
 }
 
 // The requests of a trace in order, from a sound directory.
-// An answer's place is counted: what is written through chunks_exact_mut, no proof knows afterwards (NOT_COVERED.md).
+// The answers are written by index: what is written through chunks_exact_mut, no proof knows afterwards.
 fn replay(dir: &mut [u32], trace: &[u32], answers: &mut [u32]) -> Tally
     requires ready { Ready dir.old }
     requires answers_fit { (length trace.now ≤ 1000) × (4 * length trace.now ≤ length answers.old) }
