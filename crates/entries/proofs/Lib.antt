@@ -1,6 +1,6 @@
 -- The laws of the list engine's words: what a directory's words are, what is read in them, and what each leaf leaves.
 --
--- In order: what a copy by two places leaves of a stretch of words (`Shifts`); the words at which the lists start
+-- In order: a stretch of words while it is turned or a word is put in (`Shifts`); the words at which the lists start
 -- (`Starts`); the words in parts, whichever list is changed (`Laid`); an entry moved among the listed ones (`Moving`);
 -- where a page stands in a list (`Indexes`); what each leaf of lists.rt leaves (`Changes`); entries read in the words
 -- (`Reading`), searched and counted (`Searching`); words that are at most m (`Bounds`); the head of a list (`Heads`);
