@@ -88,16 +88,6 @@ judged_bid {policy = policy} {c} {cost} is counted = record {
   pages_there = counted.is_listed;
 }
 
--- The answer by the meaning, without its page lines.
-module _ (s : List ℕ) (blank : ℕ) where
-  pub answer_good : {b : Bid} {start : ℕ} → JudgedGood s (meaning_where (means blank) s) b start
-      → BidJudged s blank (Ok b)
-  answer_good h = rw (h.meaning_is, h.count_is) refl
-
-  pub answer_refused : (e : RefusedAt) → meaning_where (means blank) s ≡ refused (number_of e.refusal) e.line
-      → BidJudged s blank (Err e)
-  answer_refused e is = rw is refl
-
 -- WHAT THE ANSWER SAYS OF THE SHEET
 
 pub record Accepted (m : Meaning) : Type 0 where

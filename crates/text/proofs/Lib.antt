@@ -1,4 +1,4 @@
--- In order: parts of bytes, from a place on and up to another (`from_place`, `drop_take`, `part_length`), the library's
+-- In order: parts of bytes, from a place on and up to another (`from_place`, `part_length`), the library's
 -- tests, a key in front, two texts (`same_text`); digits, read on from a place as a loop does, and what they are worth
 -- (`Worth`); where a byte first stands, by the library's search (`Places`).
 --

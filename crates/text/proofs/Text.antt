@@ -1,15 +1,14 @@
 -- Bytes from a place on and up to another; a key in front of bytes, and two texts that are the same, by the library's
 -- tests.
 use Rattle.std.specs.Prelude.{if◌then◌else◌}
-use mathlib.Core.Path.{◌≡◌, refl, sym, ap, ap₂, ◌∙◌}
+use mathlib.Core.Path.{◌≡◌, refl, sym, ap₂}
 use mathlib.Core.Bool.{Bool, true, false, false≢true, ◌&&◌}
 use mathlib.Core.List.{List, [], ◌∷◌, ◌++◌}
-use Prim.Native.Nat.{ℕ, zero, suc, ◌+◌, ◌-◌, ◌≤◌, ◌<◌}
-use native.Mathlib.Nat.{sub-zero, zero-sub, suc-sub-suc}
+use Prim.Native.Nat.{ℕ, ◌+◌, ◌-◌, ◌≤◌, ◌<◌}
 use native.Mathlib.Numerals.{add-one}
 use native.Mathlib.Omega.{arith}
 use lib.ListN.{get_or, take, drop, length-drop}
-use lib.Seq.{drop-cons, take-nil, length-take-le}
+use lib.Seq.{drop-cons, length-take-le}
 use lib.Dec.{eqb}
 use lib.Pointwise.{pointwise}
 use borrow.Author.Tests.{eq-eqb, eqb-true}
@@ -23,14 +22,6 @@ use Rattle.text.specs.Text.{starts}
 -- From a place inside: the byte there, then those from the next place.
 pub from_place : (s : List ℕ) (i : ℕ) → i < ∣ s ∣ → drop i s ≡ get_or s i 0 ∷ drop (i + 1) s
 from_place s i inside = rw (add-one, drop-cons s i 0 inside)
-
--- Cut behind and then in front, or in front and then behind.
-pub drop_take : (from to : ℕ) (s : List ℕ) → drop from (take to s) ≡ take (to - from) (drop from s)
-drop_take zero to s = ap (λ (n : ℕ). take n s) (sym (sub-zero to))
-drop_take (suc from) zero s = ap (λ (n : ℕ). take n (drop (suc from) s)) (sym (zero-sub (suc from)))
-drop_take (suc from) (suc to) [] = sym (take-nil (suc to - suc from))
-drop_take (suc from) (suc to) (b ∷ s) =
-    drop_take from to s ∙ ap (λ (n : ℕ). take n (drop from s)) (sym (suc-sub-suc to from))
 
 pub part_length : (from to : ℕ) (s : List ℕ) → to ≤ ∣ s ∣ → ∣ take (to - from) (drop from s) ∣ ≡ to - from
 part_length from to s inside = length-take-le (to - from) (drop from s) (omega (arith, length-drop from s))
