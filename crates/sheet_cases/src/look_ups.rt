@@ -1,70 +1,49 @@
 // The look-up by line number: its number, where its part starts and stops in the sheet, and the part's bytes.
 use crate::show;
+use lines::Span;
 use std::io;
-use std::rt::Runtime;
+use std::rt::Files;
 
-fn look_up(rt: &impl Runtime, name: &[u8], sheet: &[u8], line: u32) -> io::Result<()> {
-    let span = lines::span_of(sheet, line);
-    rt.write_all(name)?;
-    show::named(rt, b" look-up=", line)?;
-    show::named(rt, b" number=", span.number)?;
-    show::named_long(rt, b" start=", span.start as u64)?;
-    show::named_long(rt, b" stop=", span.stop as u64)?;
-    rt.write_all(b" part=[")?;
-    rt.write_all(lines::part_of(sheet, line))?;
-    rt.write_all(b"]\n")
+// What is shown of a look-up that is refused.
+const REFUSED: Span = Span { start: 0, stop: 0 };
+
+fn look_up(rt: &impl Print, name: &str, sheet: &[u8], line: u32) -> io::Result<()> {
+    let answer = lines::span_of(sheet, line);
+    let number = show::number_in(answer.err());
+    let span = answer.unwrap_or(REFUSED);
+    print!(rt;
+        "{name} look-up={line} number={number} start={} stop={}",
+        span.start, span.stop
+    )?;
+    print!(rt; " part=[")?;
+    if let Ok(part) = lines::look_up(sheet, line) {
+        rt.write_all(part)?;
+    }
+    println!(rt; "]")
 }
 
-// One line of a file.
-fn line(rt: &impl Runtime, name: &[u8], line: u32) -> io::Result<()> {
-    let mut sheet = [0u8; 16001];
-    let n = show::load(rt, name, &mut sheet)?;
-    look_up(rt, name, &sheet[..n], line)
+// Some lines of a file.
+fn look_ups(rt: &(impl Print + Eprint + Files), name: &str, lines: &[u32]) -> io::Result<()> {
+    let mut sheet = [0; 16001];
+    let sheet = show::load(rt, name, &mut sheet)?;
+    for line in lines {
+        look_up(rt, name, sheet, *line)?;
+    }
+    Ok(())
 }
 
-// The worked sheet has 11 lines.
-fn worked_sheet(rt: &impl Runtime) -> io::Result<()> {
-    line(rt, b"worked.bid", 0)?;
-    line(rt, b"worked.bid", 1)?;
-    line(rt, b"worked.bid", 2)?;
-    line(rt, b"worked.bid", 3)?;
-    line(rt, b"worked.bid", 4)?;
-    line(rt, b"worked.bid", 11)?;
-    line(rt, b"worked.bid", 12)?;
-    line(rt, b"worked.bid", 4294967295)?;
-    line(rt, b"no-final-line-feed.bid", 10)?;
-    line(rt, b"no-final-line-feed.bid", 11)
-}
+pub fn all(rt: &(impl Print + Eprint + Files)) -> io::Result<()> {
+    // The worked sheet has 11 lines.
+    look_ups(rt, "worked.bid", &[0, 1, 2, 3, 4, 11, 12, u32::MAX])?;
+    look_ups(rt, "no-final-line-feed.bid", &[10, 11])?;
 
-// Keys and values are not judged; a line has to be closed and have a `=`.
-fn odd_lines(rt: &impl Runtime) -> io::Result<()> {
-    line(rt, b"odd-lines.txt", 1)?;
-    line(rt, b"odd-lines.txt", 2)?;
-    line(rt, b"odd-lines.txt", 3)?;
-    line(rt, b"odd-lines.txt", 4)?;
-    line(rt, b"odd-lines.txt", 5)?;
-    line(rt, b"odd-lines.txt", 6)?;
-    line(rt, b"odd-lines.txt", 7)?;
-    line(rt, b"odd-lines.txt", 8)?;
-    line(rt, b"odd-lines.txt", 9)?;
-    line(rt, b"one-line-feed.txt", 1)?;
-    line(rt, b"one-line-feed.txt", 2)?;
-    line(rt, b"empty.bid", 0)?;
-    line(rt, b"empty.bid", 1)
-}
+    // Keys and values are not judged; a line has to be closed and have a `=`.
+    look_ups(rt, "odd-lines.txt", &[1, 2, 3, 4, 5, 6, 7, 8, 9])?;
+    look_ups(rt, "one-line-feed.txt", &[1, 2])?;
+    look_ups(rt, "empty.bid", &[0, 1])?;
 
-// A sheet too long is refused first.
-fn long_sheets(rt: &impl Runtime) -> io::Result<()> {
-    line(rt, b"thousand-pages.bid", 1003)?;
-    line(rt, b"thousand-pages.bid", 1004)?;
-    line(rt, b"bytes-16000.bid", 1001)?;
-    line(rt, b"bytes-16000.bid", 1002)?;
-    line(rt, b"bytes-16001.bid", 0)?;
-    line(rt, b"bytes-16001.bid", 1)
-}
-
-pub fn all(rt: &impl Runtime) -> io::Result<()> {
-    worked_sheet(rt)?;
-    odd_lines(rt)?;
-    long_sheets(rt)
+    // A sheet too long is refused first.
+    look_ups(rt, "thousand-pages.bid", &[1003, 1004])?;
+    look_ups(rt, "bytes-16000.bid", &[1001, 1002])?;
+    look_ups(rt, "bytes-16001.bid", &[0, 1])
 }

@@ -1,6 +1,0 @@
--- Word after word, to the last.
-use Rattle.std.proofs.Common.{length, ◌-◌}
-use Rattle.sheet_cases.proofs.show.sum.Given as goal
-
-abbrev pub decreases-loop-i : goal.decreases-loop-i
-decreases-loop-i l = length l.words - l.i
