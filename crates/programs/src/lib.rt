@@ -3,108 +3,120 @@
 // and the page lines of one unit. What is printed is proved in scoring, copying and council.
 #![tactic(auto)]
 
-ghost use Rattle.std.specs.Prelude.{◌≤◌, length};
+ghost use Rattle.std.specs.Prelude.{◌≤◌};
 
 use std::env::{Env, FillError};
 use std::io::Read;
 use std::process::ExitCode;
+use streams::Failed;
 
-// Spc has the unit whose pages it lists.
-#[derive(Clone, Copy)]
-pub enum Program {
-    Score,
-    Ledger,
-    Copy,
-    Spc(u32),
+// Of a sheet or trace that is too long, one byte too many is read.
+const INPUT: usize = 16001;
+
+const OUT: usize = 256256;
+
+// The memory that is lent: enough for each program.
+#[derive(Drop)]
+struct Memory {
+    pages: [u32; 1000],
+    dir: [u32; 4104],
+    answers: [u32; 4000],
+    out: [u8; OUT],
 }
 
-// What is to be printed of the input, a sheet or a trace, stands in front of out, so many bytes.
-fn answered(
-    program: Program,
-    input: &[u8],
-    pages: &mut [u32],
-    dir: &mut [u32],
-    answers: &mut [u32],
-    out: &mut [u8],
-) -> usize
-    ensures { result ≤ length out.new }
-{
-    match program {
-        Program::Score => {
-            let scored = scoring::score(input, pages, dir, answers, out);
-            scored.count
-        }
-        Program::Ledger => {
-            let scored = scoring::ledger(input, pages, dir, answers, out);
-            scored.count
-        }
-        Program::Copy => {
-            let copied = copying::answer(input, out);
-            copied.count
-        }
-        Program::Spc(unit) => {
-            let listed = council::answer(input, unit, pages, out);
-            listed.count
-        }
+// What a program does between standard input and output.
+trait Program {
+    // What is to be printed of the input, a sheet or a trace, stands in front of out, so many bytes.
+    fn answer(&self, input: &[u8], memory: &mut Memory) -> usize
+        ensures { result ≤ OUT };
+}
+
+#[derive(Clone, Copy)]
+struct ScoreSheet;
+
+impl Program for ScoreSheet {
+    fn answer(&self, input: &[u8], memory: &mut Memory) -> usize {
+        let scored = scoring::score(
+            input,
+            &mut memory.pages,
+            &mut memory.dir,
+            &mut memory.answers,
+            &mut memory.out,
+        );
+        scored.count
     }
 }
 
-// Reads the input and prints; the program's status.
+#[derive(Clone, Copy)]
+struct WriteLedger;
+
+impl Program for WriteLedger {
+    fn answer(&self, input: &[u8], memory: &mut Memory) -> usize {
+        let scored = scoring::ledger(
+            input,
+            &mut memory.pages,
+            &mut memory.dir,
+            &mut memory.answers,
+            &mut memory.out,
+        );
+        scored.count
+    }
+}
+
+#[derive(Clone, Copy)]
+struct CopySheet;
+
+impl Program for CopySheet {
+    fn answer(&self, input: &[u8], memory: &mut Memory) -> usize {
+        copying::answer(input, &mut memory.out).unwrap_or(0)
+    }
+}
+
+// The unit whose pages are listed.
+#[derive(Clone, Copy)]
+struct ListPages(u32);
+
+impl Program for ListPages {
+    fn answer(&self, input: &[u8], memory: &mut Memory) -> usize {
+        council::answer(input, self.0, &mut memory.pages, &mut memory.out).unwrap_or(0)
+    }
+}
+
+// Reads the input and prints what a program answers.
 fn answer(
     rt: &(impl Print + Eprint),
     reader: &mut impl Read,
-    program: Program,
-    input: &mut [u8],
-    pages: &mut [u32],
-    dir: &mut [u32],
-    answers: &mut [u32],
-    out: &mut [u8],
-) -> ExitCode {
-    let streams::Input::Came(n) = streams::read_input(rt, reader, input) else {
-        return ExitCode::FAILURE;
+    program: &impl Program,
+) -> Result<(), Failed> {
+    let mut memory = Memory {
+        pages: [0; 1000],
+        dir: [0; 4104],
+        answers: [0; 4000],
+        out: [0; OUT],
     };
-    let count = answered(program, &input[0..n], pages, dir, answers, out);
-    if streams::print(rt, &out[0..count]) {
-        ExitCode::SUCCESS
-    } else {
-        ExitCode::FAILURE
+    let mut input = [0; INPUT];
+    let n = streams::read_input(rt, reader, &mut input)?;
+    let count = program.answer(&input[..n], &mut memory);
+    streams::print(rt, &memory.out[..count])
+}
+
+// The program's status.
+fn run(rt: &(impl Print + Eprint), reader: &mut impl Read, program: &impl Program) -> ExitCode {
+    match answer(rt, reader, program) {
+        Ok(()) => ExitCode::SUCCESS,
+        Err(Failed) => ExitCode::FAILURE,
     }
-}
-
-// Lends memory that is enough for each. Of a sheet or trace that is too long, one byte too many is read.
-fn run(rt: &(impl Print + Eprint), reader: &mut impl Read, program: Program) -> ExitCode {
-    let mut input = [0u8; 16001];
-    let mut pages = [0u32; 1000];
-    let mut dir = [0u32; 4104];
-    let mut answers = [0u32; 4000];
-    let mut out = [0u8; 256256];
-    answer(
-        rt,
-        reader,
-        program,
-        &mut input,
-        &mut pages,
-        &mut dir,
-        &mut answers,
-        &mut out,
-    )
-}
-
-// Whether a program was started with no argument behind the first.
-fn ends_there(rt: &impl Env) -> bool {
-    let mut text = [0u8; 1];
-    matches!(rt.arg(2, &mut text), Err(FillError::NotPresent))
 }
 
 // The one argument that a program was started with, as a unit. One of over 4,096 bytes is none.
-fn argument(rt: &impl Env) -> records::Asked {
-    let mut text = [0u8; 4096];
+fn argument(rt: &impl Env) -> Option<u32> {
+    let mut text = [0; 4096];
     let Ok(n) = rt.arg(1, &mut text) else {
-        return records::Asked::NoUnit;
+        return None;
     };
-    if !ends_there(rt) {
-        return records::Asked::NoUnit;
-    }
+    let Err(FillError::NotPresent) = rt.arg(2, &mut [0]) else {
+        return None;
+    };
     records::unit_of(&text[..n])
 }
 
@@ -115,20 +127,20 @@ fn usage(rt: &impl Eprint) -> ExitCode {
 
 // The programs: their status.
 pub fn score(rt: &(impl Print + Eprint), reader: &mut impl Read) -> ExitCode {
-    run(rt, reader, Program::Score)
+    run(rt, reader, &ScoreSheet)
 }
 
 pub fn ledger(rt: &(impl Print + Eprint), reader: &mut impl Read) -> ExitCode {
-    run(rt, reader, Program::Ledger)
+    run(rt, reader, &WriteLedger)
 }
 
 pub fn copy(rt: &(impl Print + Eprint), reader: &mut impl Read) -> ExitCode {
-    run(rt, reader, Program::Copy)
+    run(rt, reader, &CopySheet)
 }
 
 pub fn spc(rt: &(impl Print + Eprint + Env), reader: &mut impl Read) -> ExitCode {
-    let records::Asked::Unit(unit) = argument(rt) else {
-        return usage(rt);
-    };
-    run(rt, reader, Program::Spc(unit))
+    match argument(rt) {
+        Some(unit) => run(rt, reader, &ListPages(unit)),
+        None => usage(rt),
+    }
 }
