@@ -34,7 +34,8 @@ fn names(text: &[u8], policy: Policy) -> bool
     text::equal(text, policy.name())
 }
 
-// The policy that the bytes name, or `blank` where they are none.
+// The policy that the bytes name, or `blank` where they are none. A test for each name, as the definition asks them: each
+// shows which policy it answers.
 #[tactic(auto, using(crate::proofs::Keyed::blank))]
 fn policy_value(text: &[u8], blank: u32) -> Result<u32, Refusal>
     ensures { valued result ≡ policy_meant (means blank) (policy_value text.now) }

@@ -31,7 +31,8 @@ fn at_line(read: Result<(u32, usize), Refusal>, line: u32) -> Result<(u32, usize
     read.map_err(|refusal| refusal.at(line))
 }
 
-// Counts before any page is written: a wrong line further down leaves the buffer as it was.
+// Counts before any page is written: a wrong line further down leaves the buffer as it was. A cursor, as document 01
+// names it: where the next line starts is said by the line before it.
 fn count_pages(sheet: &[u8], start: usize) -> Result<u32, RefusedAt>
     ensures { CountedAs (pages_from 0 (lines (drop start sheet.now))) result }
 {
@@ -46,7 +47,7 @@ fn count_pages(sheet: &[u8], start: usize) -> Result<u32, RefusedAt>
     Ok(count)
 }
 
-// Writes the pages of lines that are known to be good.
+// Writes the pages of lines that are known to be good, by the same cursor.
 fn fill(sheet: &[u8], start: usize, pages: &mut [u32])
     requires { 1000 ≤ length pages.old }
     ensures { PagesFilled sheet.now start pages.old pages.new }
