@@ -24,6 +24,7 @@ use std::ops::ControlFlow;
 const LOOKS: u32 = 8;
 
 // Line 24, the choice of a clock, with so many looks left: the page that was evicted, or none yet and the hand so far.
+// Choice and look call each other: document 01's form.
 #[cycle(choose_look)]
 fn choose(
     dir: &mut [u32],
