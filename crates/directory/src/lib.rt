@@ -6,7 +6,6 @@ ghost use Rattle.std.specs.Prelude.{◌≡◌, ◌+◌, ◌*◌, ◌≤◌, ◌<
 ghost use Rattle.terms.specs.Policies.{number_of};
 ghost use Rattle.figures.specs.Words.{decode, size, n_t1, n_t2};
 ghost use Rattle.figures.specs.Request.{request};
-ghost use Rattle.figures.specs.Run.{zero_tally};
 ghost use Rattle.engine.specs.Shown.{Tells, number_of as kind_number};
 ghost use Rattle.entries.specs.Holds.{Holds};
 ghost use Rattle.tally.specs.Note.{defined, Small};
@@ -177,19 +176,6 @@ fn step(dir: &mut [u32], page: u32, answers: &mut [u32], at: usize, t: Tally) ->
     tally::counted(t, served)
 }
 
-// The tally of a run that serves nothing. It stays as long as the crate tally derives no Default.
-pub fn no_tally() -> Tally
-    ensures { defined result ≡ zero_tally }
-{
-    Tally {
-        requests: 0,
-        hits: 0,
-        misses: 0,
-        evictions: 0,
-        moves: 0,
-    }
-}
-
 // The requests of a trace in order, from a sound directory.
 // The answers are written by index: what is written through chunks_exact_mut, no proof knows afterwards.
 fn replay(dir: &mut [u32], trace: &[u32], answers: &mut [u32]) -> Tally
@@ -198,7 +184,7 @@ fn replay(dir: &mut [u32], trace: &[u32], answers: &mut [u32]) -> Tally
     ensures { RunThrough dir.old trace.now answers.old
         result dir.new answers.new }
 {
-    let mut t = no_tally();
+    let mut t = Tally::default();
     for (i, &page) in trace.iter().enumerate() {
         t = step(dir, page, answers, 4 * i, t);
     }

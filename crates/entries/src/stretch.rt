@@ -1,7 +1,7 @@
 // A stretch of words turned by one entry, and an entry put in: two words each.
 // What stands before and after the stretch stays.
 //
-// The two loops stay: LLVM makes one memmove of each, and neither of copy_within nor of rotate_left, which were slower.
+// Two loops and no copy_within or rotate_left: LLVM makes one memmove of each loop, and the library's were slower.
 ghost use Rattle.std.specs.Prelude.{◌≡◌, ◌+◌, ◌≤◌, ◌∷◌, ◌++◌, length, take, drop};
 ghost use Rattle.entries.specs.Leaves.{ToEnd, PutIn, TakenOut};
 
@@ -16,10 +16,8 @@ fn turn(s: &mut [u32])
     let a = s[0];
     let b = s[1];
     let m = n - 2;
-    let mut i = 0;
-    while i < m {
+    for i in 0..m {
         s[i] = s[i + 2];
-        i += 1;
     }
     s[m] = a;
     s[m + 1] = b;
@@ -39,9 +37,7 @@ fn shift_in(s: &mut [u32], page: u32, flags: u32)
     requires { 2 ≤ length s.old }
     ensures { s.new ≡ take (length s.old) (page ∷ flags ∷ s.old) }
 {
-    let mut i = s.len();
-    while 2 < i {
-        i -= 1;
+    for i in (2..s.len()).rev() {
         s[i] = s[i - 2];
     }
     s[1] = flags;

@@ -6,7 +6,6 @@ ghost use Rattle.std.specs.Prelude.{◌≡◌};
 ghost use Rattle.terms.specs.Refusals.{number_in};
 ghost use Rattle.exports.specs.Promises.{answer_of, Requested, RunAs, Replayed, Freshened, Checked};
 
-use directory::no_tally;
 use tally::Tally;
 use terms::refusals::Refusal;
 
@@ -60,7 +59,7 @@ impl From<Result<Tally, Refusal>> for Ran {
             Ok(tally) => Ran { number: 0, tally },
             Err(refusal) => Ran {
                 number: refusal.into(),
-                tally: no_tally(),
+                tally: Tally::default(),
             },
         }
     }

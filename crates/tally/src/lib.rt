@@ -9,7 +9,7 @@ use engine::kinds::Kind;
 
 // Laid out as C has it: exports hands it to C.
 #[repr(C)]
-#[derive(Clone, Copy)]
+#[derive(Clone, Copy, Default)]
 pub struct Tally {
     pub requests: u32,
     pub hits: u32,

@@ -10,6 +10,3 @@ invariant-loop-i l =
       within : l.i ≤ length l.fn.s;
       halves : l.s ≡ over l.fn.s (shifted l.page l.flags l.fn.s) l.i;
     }
-
-abbrev pub decreases-loop-i : goal.decreases-loop-i
-decreases-loop-i l = l.i

@@ -10,6 +10,3 @@ invariant-loop-i l =
       two_left : l.m + 2 ≡ length l.fn.s;
       turned : l.s ≡ moved l.fn.s l.i;
     }
-
-abbrev pub decreases-loop-i : goal.decreases-loop-i
-decreases-loop-i l = l.m - l.i
