@@ -1,5 +1,8 @@
 // CART, Figure 3, in lent words: evict by its two passes and the demotion, then trim and place.
 // n_S and n_L are counted once and then kept as the figure keeps them.
+//
+// Room, Passing and Freed stay clauses: they hold of the words at a call, and a step may break them (a demoted page
+// leaves the cache not full), which a ghost field beside a `&mut` may not.
 #![tactic(auto)]
 
 ghost use Rattle.std.specs.Prelude.{◌≡◌, true, false, ◌+◌, ◌-◌, ◌*◌, ◌≤◌, length, get_or};

@@ -17,7 +17,7 @@ fn low_place(page: u32) -> usize
 fn mixed_place(page: u32) -> usize
     ensures { result ≡ mixed_place page }
 {
-    (page as u64 * 2654435769 % 4294967296 / 131072) as usize
+    (u64::from(page) * 2654435769 % 4294967296 / 131072) as usize
 }
 
 fn is_set(seen: &[u32; WORDS], place: usize) -> bool

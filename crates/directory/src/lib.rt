@@ -81,7 +81,8 @@ fn still(kind: Kind) -> Served
     }
 }
 
-// The policy that a sound directory names.
+// The policy that a sound directory names. Ready stays a clause: while a request is served the words change, and a type
+// of sound words would have to hold at each call of hit and miss, which only serve shows to leave them sound.
 fn policy_of(dir: &[u32]) -> Policy
     requires { Ready dir.now }
     ensures { number_of result ≡ get_or dir.now 0 0 }
@@ -90,7 +91,7 @@ fn policy_of(dir: &[u32]) -> Policy
 }
 
 // A hit on entry k of T1 and T2, by the policy that the directory names: FIFO ignores it, LRU moves the page to T1's
-// tail, all others set its bit.
+// tail, all others set its bit. A match, here and in miss: a trait of policies would say in five impls what two lines say.
 fn hit(dir: &mut [u32], k: usize)
     requires ready { Ready dir.old }
     requires in_cache { k < n_t1 dir.old + n_t2 dir.old }

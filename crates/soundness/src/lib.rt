@@ -84,7 +84,7 @@ impl<'a> Held<'a> {
         self.alone_sound() && search::count(dir, header::ENTRIES, n.t1, flags::BIT) == 0
     }
 
-    // The own rules of the policy that the directory names.
+    // The own rules of the policy that the directory names: a match, since the rules are this crate's alone.
     fn own_sound(self) -> bool
         ensures { result ≡ (policy_of (get_or self.entry.dir.now 0 0)).own_sound self.entry.dir.now }
     {

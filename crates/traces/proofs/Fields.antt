@@ -26,18 +26,3 @@ fields_last (b ∷ s) none = by_first (eqb b comma) none (fields_last s)
         → (if t then field [] (fields s) else behind b (fields s)) ≡ last (b ∷ s)
     by_first true none later = absurd (omega arith)
     by_first false none later = ap (behind b) (later (omega arith))
-
--- The first field, whatever follows it.
-pub first_field : (s : List ℕ) → first (fields s) ≡ take (index_of comma s) s
-unfolding index_of
-first_field [] = refl
-first_field (b ∷ s) = by_first (eqb b comma) (first_field s)
-  where
-    first_behind : (fs : Fields) → first (behind b fs) ≡ b ∷ first fs
-    first_behind (field f rest) = refl
-    first_behind (last f) = refl
-
-    by_first : (t : Bool) → first (fields s) ≡ take (index_of comma s) s
-        → first (if t then field [] (fields s) else behind b (fields s)) ≡ take (index_after t (index_of comma s)) (b ∷ s)
-    by_first true later = refl
-    by_first false later = first_behind (fields s) ∙ ap (λ l. b ∷ l) later
