@@ -78,7 +78,7 @@ impl Extent {
             return Err(Refusal::PageTooLarge);
         }
         let count = last - first + 1;
-        if (limits::MOST_PAGES as u64) < u64::from(before) + count {
+        if (limits::MOST_PAGES as u64) < before as u64 + count {
             return Err(Refusal::TooManyPages);
         }
         Ok(Yielded {
@@ -100,7 +100,7 @@ impl<'a> Trace<'a> {
         };
         match records::record_of(&self.file[at..end]) {
             Some(Record::Read(of, lba, size)) => {
-                if of != u64::from(self.unit) {
+                if of != self.unit as u64 {
                     return Ok(no_pages(end + 1));
                 }
                 Extent { lba, size }.counted(before, end + 1)

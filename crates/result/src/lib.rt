@@ -93,7 +93,7 @@ impl<'a> Place<'a> {
         ensures { Puts self.old (name.now ++ decimal n) self.new }
     {
         self.put(name);
-        self.put_number(u64::from(n));
+        self.put_number(n as u64);
     }
 
     // Puts a line: a key, a number, a line feed.
