@@ -24,7 +24,8 @@ struct Memory {
     out: [u8; OUT],
 }
 
-// What a program does between standard input and output.
+// What a program does between standard input and output. An impl each for score and ledger, which differ in the call
+// alone: to share it, a closure over five slices would have to say in its own clauses what the call ensures.
 trait Program {
     // What is to be printed of the input, a sheet or a trace, stands in front of out, so many bytes.
     fn answer(&self, input: &[u8], memory: &mut Memory) -> usize
