@@ -13,7 +13,8 @@ use terms::limits;
 use terms::policies::Policy;
 use terms::refusals::Refusal;
 
-// What stands behind its key in the line at a place, and where the next line starts.
+// What stands behind its key in the line at a place, and where the next line starts. (The sheet and a place, here and
+// below: document 01's few thin functions over a covered cursor.)
 #[tactic(auto, using(crate::proofs::Keyed::keyed))]
 fn under_key<'a>(sheet: &'a [u8], at: usize, key: &[u8]) -> Result<(&'a [u8], usize), Refusal>
     ensures { KeyedAt sheet.now at key.now result }
@@ -72,6 +73,7 @@ pub fn policy_line(sheet: &[u8], at: usize, blank: u32) -> Result<(u32, usize), 
     Ok((policy, next))
 }
 
+// The size; below it the cost and a page. What the lines share is under_key: each has its own test and refusal.
 #[tactic(auto, using(crate::proofs::Readings::readings), unfolding(sheets::specs::Bid::size_line))]
 pub fn size_line(sheet: &[u8], at: usize) -> Result<(u32, usize), Refusal>
     ensures { ReadsLine sheet.now at (size_line (lines (drop at sheet.now))) result }

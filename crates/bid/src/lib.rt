@@ -15,7 +15,8 @@ use terms::limits;
 use terms::policies::Policy;
 use terms::refusals::{Refusal, RefusedAt};
 
-// An accepted sheet's words. The policy stays a number: a blank one is whatever number the caller of judge hands in.
+// An accepted sheet's words. The policy stays a number: a blank one is whatever number the caller of judge hands in. The
+// count says how many lent words are filled: no heap.
 #[derive(Clone, Copy)]
 pub struct Bid {
     pub policy: u32,

@@ -1,5 +1,6 @@
 // CAR, Figure 2, in lent words: evict by choosing a clock and looking at its head, then trim and place.
 // The choice leads to a look, and a look at a set bit back to the choice, so many times at most; the set bits fall.
+// Room, Turning and Freed stay clauses: the kit has no ghost field beside a `&mut` (NOT_COVERED.md).
 #![tactic(auto)]
 
 ghost use Rattle.std.specs.Prelude.{◌+◌, ◌≤◌};

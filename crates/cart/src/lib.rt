@@ -1,8 +1,8 @@
 // CART, Figure 3, in lent words: evict by its two passes and the demotion, then trim and place.
 // n_S and n_L are counted once and then kept as the figure keeps them.
 //
-// Room, Passing and Freed stay clauses: they hold of the words at a call, and a step may break them (a demoted page
-// leaves the cache not full), which a ghost field beside a `&mut` may not.
+// Room, Passing and Freed stay clauses, and dir and kept two parameters: the kit has no ghost field beside a `&mut`
+// (NOT_COVERED.md), and the demotion ends Passing.
 #![tactic(auto)]
 
 ghost use Rattle.std.specs.Prelude.{◌≡◌, true, false, ◌+◌, ◌-◌, ◌*◌, ◌≤◌, length, get_or};
@@ -25,7 +25,8 @@ use engine::counts;
 use engine::kinds::Kind;
 use entries::{flags, header, lists, returning, search, targets};
 
-// The flags of the head of list i, and where it is empty those of a head at which both passes stop.
+// The flags of the head of list i, and where it is empty those of a head at which both passes stop, so that each pass has
+// one test and no Option.
 fn head_flags(dir: &[u32], i: usize) -> u32
     requires room { Room dir.now }
     requires clock { i ≤ 1 }

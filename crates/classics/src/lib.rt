@@ -1,6 +1,6 @@
 // FIFO, CLOCK and LRU in lent words: T1 alone, a queue whose head is evicted and forgotten.
 // One evict part serves the three, CLOCK's: where no bit is set, as under FIFO and LRU, it forgets the head at once.
-// FullQueue stays a clause of its functions: evict leaves the cache not full, which a field of a type may not.
+// FullQueue stays a clause: the kit has no ghost field beside a `&mut` (NOT_COVERED.md), and evict ends it.
 #![tactic(auto)]
 
 ghost use Rattle.std.specs.Prelude.{◌<◌};

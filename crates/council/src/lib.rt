@@ -21,7 +21,8 @@ use terms::refusals::{Refusal, RefusedAt};
 // The least number of lent bytes for a line `page=` of each page.
 const LISTING: usize = 16 * limits::MOST_PAGES;
 
-// Counts before any page is written: a wrong line further down leaves the buffer as it was.
+// Counts before any page is written: a wrong line further down leaves the buffer as it was. A cursor, as document 01
+// names it: where the next line starts is said by the line before it.
 fn count_pages(trace: Trace<'_>) -> Result<u32, RefusedAt>
     requires { length trace.file.now ≤ 16000 }
     ensures { size_in result ≡ size_of (pages_from trace.entry.unit 0 0
@@ -43,8 +44,8 @@ fn count_pages(trace: Trace<'_>) -> Result<u32, RefusedAt>
     Ok(count)
 }
 
-// Puts so many pages in a row from a place on, and answers the place behind them. By their places: the range `first..`,
-// which a zip would take, ends before page 4,294,967,295.
+// Puts so many pages in a row from a place on, and answers the place behind them. By their places: what is written
+// through an adapter of iter_mut, no proof knows afterwards (NOT_COVERED.md).
 fn put_pages(pages: &mut [u32], at: usize, first: u32, count: u32) -> usize
     requires { (at + count ≤ length pages.old) × (first + count ≤ 4294967296) }
     ensures { Put pages.old at (numbers_from first count) pages.new result }
@@ -55,7 +56,7 @@ fn put_pages(pages: &mut [u32], at: usize, first: u32, count: u32) -> usize
     at + count as usize
 }
 
-// Writes the pages of a trace that is known to be good.
+// Writes the pages of a trace that is known to be good, by the same cursor.
 fn fill(trace: Trace<'_>, pages: &mut [u32])
     requires { 1000 ≤ length pages.old }
     ensures { PagesFilled trace.entry.file.now trace.entry.unit

@@ -16,7 +16,8 @@ pub struct Trace<'a> {
     pub unit: u32,
 }
 
-// The pages of a line, in a row: the first, and how many there are; and where the next line starts.
+// The pages of a line, in a row: the first, and how many there are (a Range could not end behind page 4,294,967,295);
+// and where the next line starts.
 #[derive(Clone, Copy, Debug, PartialEq, Eq)]
 pub struct Yielded {
     pub first: u32,
@@ -78,6 +79,7 @@ impl Extent {
             return Err(Refusal::PageTooLarge);
         }
         let count = last - first + 1;
+        // `as`, here and below: over u64::from the proof did not close.
         if (limits::MOST_PAGES as u64) < before as u64 + count {
             return Err(Refusal::TooManyPages);
         }

@@ -29,7 +29,7 @@ pub struct Answer {
     pub moves: u32,
 }
 
-// A fresh directory: refusals 1, 2, 3.
+// A fresh directory: refusals 1, 2, 3. The policy stays a number: any number is answered.
 #[tactic(auto, using(crate::proofs::Refused::freshens))]
 pub fn fresh(policy: u32, c: u32, dir: &mut [u32]) -> Result<(), Refusal>
     ensures { Freshened policy c dir.old result dir.new }
@@ -81,8 +81,8 @@ fn still(kind: Kind) -> Served
     }
 }
 
-// The policy that a sound directory names. Ready stays a clause: while a request is served the words change, and a type
-// of sound words would have to hold at each call of hit and miss, which only serve shows to leave them sound.
+// The policy that a sound directory names. Ready stays a clause: the kit has no ghost field beside a `&mut`
+// (NOT_COVERED.md), and that hit and miss leave the words sound is shown by serve alone.
 fn policy_of(dir: &[u32]) -> Policy
     requires { Ready dir.now }
     ensures { number_of result ≡ get_or dir.now 0 0 }

@@ -1,5 +1,6 @@
 // What CART's evict part keeps beside the lent memory: n_S and n_L as Figure 3 keeps them, and the hand's counts.
-// Each count is a type of its own, so that neither fits where the other belongs.
+// Each count is a type of its own, so that neither fits where the other belongs, as document 01 asks; so they stand side
+// by side in two structs and are no pair.
 
 // n_S, the S pages of T1 and T2.
 #[derive(Clone, Copy)]

@@ -5,23 +5,17 @@ ghost use Rattle.engine.specs.Shown.{number_of};
 
 #[derive(Clone, Copy, Debug, PartialEq, Eq)]
 pub enum Kind {
-    Hit,
-    WithRoom,
-    New,
-    FromB1,
-    FromB2,
+    Hit = 0,
+    WithRoom = 1,
+    New = 2,
+    FromB1 = 3,
+    FromB2 = 4,
 }
 
 impl From<Kind> for u32 {
     ghost from_gives = { λ kind number. number ≡ number_of kind };
 
     fn from(kind: Kind) -> u32 {
-        match kind {
-            Kind::Hit => 0,
-            Kind::WithRoom => 1,
-            Kind::New => 2,
-            Kind::FromB1 => 3,
-            Kind::FromB2 => 4,
-        }
+        kind as u32
     }
 }

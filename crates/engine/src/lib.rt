@@ -49,7 +49,8 @@ pub struct Evicted {
     pub hand: Hand,
 }
 
-// What a request answers: its kind and its other three words, and the reference bits that the hand cleared.
+// What a request answers: its kind, and document 01's other three words, which are zeros where nothing was evicted (list
+// 1 is T1, 2 is T2); and the reference bits that the hand cleared.
 #[derive(Clone, Copy)]
 pub struct Served {
     pub kind: Kind,

@@ -2,7 +2,8 @@
 // Lists are named by number in their order; list i + 2 is the history of list i.
 //
 // They stay numbers: list i has its length in word T1_LENGTH + i, and the contracts and docs/CONTRACTS.md speak of list i.
-// Room stays a clause of each function: docs/CONTRACTS.md, "Moving an entry", names them, so they may ask no more.
+// Room stays a clause of each function: docs/CONTRACTS.md, "Moving an entry", names five of them, which may ask no more.
+// `as usize`, here and elsewhere: a word is no usize by From.
 ghost use Rattle.std.specs.Prelude.{◌≡◌, ◌+◌, ◌≤◌, ◌<◌, length, get_or};
 ghost use Rattle.figures.specs.Entry.{cleared};
 ghost use Rattle.figures.specs.Directory.{T1 as FirstClock, T2 as SecondClock, place_new};

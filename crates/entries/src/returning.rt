@@ -1,5 +1,6 @@
 // A page that comes back from a history: lines 14 to 19 of both figures.
 // The policies differ in the targets' dividends, the list whose tail the page becomes, and its flags there.
+// Freed stays a clause: the kit has no ghost field beside a `&mut` (NOT_COVERED.md).
 ghost use Rattle.std.specs.Prelude.{◌≤◌};
 ghost use Rattle.entries.specs.Returning.{Freed, Returns};
 

@@ -1,5 +1,6 @@
 // What the words of a list hold: where a page stands, how many entries have a flag, whether flags are in order.
-// Nothing is written.
+// Nothing is written. The words and two numbers, and no slice of entries, here and in differing: FoundAt and FlagCounted
+// say what the words hold from a on, and the entries are read at places of the whole.
 ghost use Rattle.std.specs.Prelude.{◌≡◌, ◌+◌, ◌*◌, ◌≤◌, length, take, drop};
 ghost use Rattle.terms.specs.Choice.{all_at_most};
 ghost use Rattle.figures.specs.Words.{most_flags};

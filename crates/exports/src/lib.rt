@@ -3,11 +3,10 @@
 #![tactic(auto)]
 
 ghost use Rattle.std.specs.Prelude.{◌≡◌};
-ghost use Rattle.terms.specs.Refusals.{number_in};
 ghost use Rattle.exports.specs.Promises.{answer_of, Requested, RunAs, Replayed, Freshened, Checked};
 
 use tally::Tally;
-use terms::refusals::Refusal;
+use terms::refusals::{Refusal, number_in};
 
 // A request's answer; zeros beside the number of a refusal.
 #[repr(C)]
@@ -65,27 +64,18 @@ impl From<Result<Tally, Refusal>> for Ran {
     }
 }
 
-fn number_of(done: Result<(), Refusal>) -> u32
-    ensures { result ≡ number_in done }
-{
-    match done {
-        Ok(()) => 0,
-        Err(refusal) => refusal.into(),
-    }
-}
-
 #[unsafe(no_mangle)]
 pub extern "C" fn replay_fresh(policy: u32, c: u32, dir: &mut [u32]) -> u32
     ensures { Freshened policy c dir.old result dir.new }
 {
-    number_of(directory::fresh(policy, c, dir))
+    number_in(directory::fresh(policy, c, dir))
 }
 
 #[unsafe(no_mangle)]
 pub extern "C" fn replay_check(dir: &[u32]) -> u32
     ensures { Checked dir.now result }
 {
-    number_of(directory::check(dir))
+    number_in(directory::check(dir))
 }
 
 #[unsafe(no_mangle)]

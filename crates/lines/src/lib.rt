@@ -28,7 +28,8 @@ impl<'a> SheetReader<'a> {
     }
 }
 
-// Where the value of a line stands in its sheet.
+// Where the value of a line stands in its sheet. Places and no slice: span_of, which docs/CONTRACTS.md names, answers
+// them as numbers.
 #[derive(Clone, Copy)]
 pub struct Span {
     pub start: usize,

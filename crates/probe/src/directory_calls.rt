@@ -4,12 +4,7 @@ use crate::Memory;
 use crate::wire::Wire;
 use std::io::Read;
 use streams::Failed;
-use terms::refusals::Refusal;
-
-// The number of a refusal; 0 where the call was accepted.
-fn number_in(answer: Result<(), Refusal>) -> u32 {
-    answer.err().map_or(0, u32::from)
-}
+use terms::refusals::number_in;
 
 // Op 1: policy, c, dir.
 pub fn fresh(

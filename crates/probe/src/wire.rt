@@ -4,7 +4,7 @@
 use std::io::Read;
 use streams::Failed;
 
-// Where calls are read and answers are written; of the raw buffer an answer fills the front.
+// Where calls are read and answers are written; of the raw buffer an answer fills the front. No Vec: no heap.
 #[derive(Drop)]
 pub struct Wire<'h, 'i, 'r, H, I> {
     rt: &'h H,

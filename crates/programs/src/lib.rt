@@ -48,6 +48,7 @@ impl Program for ScoreSheet {
     }
 }
 
+// As ScoreSheet, but for the operation, which is all that it says.
 #[derive(Clone, Copy)]
 struct WriteLedger;
 

@@ -17,7 +17,7 @@ use terms::refusals::Refusal;
 // The least number of lent bytes.
 const LEAST: usize = limits::LEAST_RESULT_BYTES;
 
-// What the sheet says, the wait in thousandths of a millisecond.
+// What the sheet says, the wait in thousandths of a millisecond. Any numbers are written, so they stay numbers.
 #[derive(Clone, Copy)]
 pub struct Outcome {
     pub policy: u32,
@@ -30,7 +30,7 @@ pub struct Outcome {
     pub wait: u64,
 }
 
-// What a ledger's line says of one request and its answer.
+// What a ledger's line says of one request and its answer. Any numbers are written, so they stay numbers.
 #[derive(Clone, Copy)]
 pub struct Request {
     pub request: u32,
@@ -41,13 +41,14 @@ pub struct Request {
     pub moves: u32,
 }
 
-// Lent bytes, and the place where the next text is put.
+// Lent bytes, and the place where the next text is put. No Vec: memory is lent.
 #[derive(Drop)]
 pub struct Place<'a> {
     pub out: &'a mut [u8],
     pub at: usize,
 }
 
+// Digits are put by hand: see put_number.
 fn last_digit(n: u64) -> u8
     ensures { result ≡ last_digit n }
 {
@@ -93,6 +94,7 @@ impl<'a> Place<'a> {
         ensures { Puts self.old (name.now ++ decimal n) self.new }
     {
         self.put(name);
+        // `as`: over u64::from the proof did not close.
         self.put_number(n as u64);
     }
 
@@ -102,7 +104,7 @@ impl<'a> Place<'a> {
         ensures { Puts self.old (line_of key.now (decimal n)) self.new }
     {
         self.put_named(key, n);
-        self.put_byte(10);
+        self.put_byte(b'\n');
     }
 
     // Puts thousandths of a millisecond: the whole milliseconds, a comma, three digits.
@@ -137,7 +139,7 @@ impl<'a> Place<'a> {
     {
         self.put(b"policy=");
         self.put_name(policy);
-        self.put_byte(10);
+        self.put_byte(b'\n');
     }
 
     fn put_wait(&mut self, wait: u64)
@@ -146,7 +148,7 @@ impl<'a> Place<'a> {
     {
         self.put(b"wait=");
         self.put_milliseconds(wait);
-        self.put_byte(10);
+        self.put_byte(b'\n');
     }
 
     // Puts the five lines of the run's tally.

@@ -28,7 +28,7 @@ const LINE: usize = limits::LEAST_RESULT_BYTES;
 const LEDGER: usize = (limits::MOST_PAGES + 1) * LINE;
 
 // How many requests were served, whose pages and answers stand in front of the lent words, or why and at which line the
-// sheet is refused; and how many bytes stand in front of out.
+// sheet is refused; and how many bytes stand in front of out, of a refused sheet, too.
 #[derive(Clone, Copy)]
 pub struct Scored {
     pub served: Result<u32, RefusedAt>,
@@ -93,7 +93,8 @@ fn score_bid(
     }
 }
 
-// Scores a sheet in memory that is enough: what is to be printed stands in front of out.
+// Scores a sheet in memory that is enough: what is to be printed stands in front of out. The four lent slices stay
+// parameters: docs/CONTRACTS.md names score and ledger with them, and the ledger lends a part of out on.
 fn score_sheet(
     sheet: &[u8],
     pages: &mut [u32],
@@ -119,7 +120,8 @@ fn score_sheet(
     }
 }
 
-// Puts the ledger's line of request i, counted from 0, at a place, and answers the place behind it.
+// Puts the ledger's line of request i, counted from 0, at a place, and answers the place behind it. By a place and not by
+// result::Place: write_request is lent 256 bytes of its own, whole.
 fn put_request(out: &mut [u8], at: usize, pages: &[u32], answers: &[u32], i: usize) -> usize
     requires { Request i at pages.now answers.now out.old }
     ensures { LinePut i at pages.now answers.now out.old result out.new }
@@ -189,6 +191,7 @@ fn lends_enough(least: usize, pages: &[u32], dir: &[u32], answers: &[u32], out: 
 }
 
 // Scores a sheet: what is to be printed stands in front of out. Refusal 6 for too little memory, then the sheet's own.
+// (score and ledger differ in the least bytes and in the step, which is all that they say.)
 pub fn score(
     sheet: &[u8],
     pages: &mut [u32],

@@ -3,6 +3,7 @@
 use crate::show;
 use std::io;
 use std::rt::Files;
+use terms::refusals::number_in;
 
 // What the lent bytes hold before a call; no sheet has this byte.
 const BEFORE: u8 = 7;
@@ -38,15 +39,8 @@ fn file(rt: &(impl Print + Eprint + Files), name: &str) -> io::Result<()> {
     copy(rt, name, sheet, &mut [BEFORE; 16001])
 }
 
-// Each of the files.
-fn files(rt: &(impl Print + Eprint + Files), names: &[&str]) -> io::Result<()> {
-    for name in names {
-        file(rt, name)?;
-    }
-    Ok(())
-}
-
-// The file into buffers of 0, 15,999 and 16,000 bytes.
+// The file into buffers of 0, 15,999 and 16,000 bytes. (The bid sheets' function of this name calls another operation on
+// other lengths, which is all that either says.)
 fn short_buffers(rt: &(impl Print + Eprint + Files), name: &str) -> io::Result<()> {
     let mut sheet = [0; 16001];
     let sheet = show::load(rt, name, &mut sheet)?;
@@ -64,10 +58,7 @@ fn answer(rt: &(impl Print + Eprint + Files), name: &str, out: &mut [u8]) -> io:
     let sheet = show::load(rt, name, &mut sheet)?;
     let answer = copying::answer(sheet, out);
     let count = answer.unwrap_or(0);
-    println!(rt;
-        "{name} number={} printed={count}",
-        show::number_in(answer.err())
-    )?;
+    println!(rt; "{name} number={} printed={count}", number_in(answer))?;
     rt.write_all(&out[..count])
 }
 
@@ -112,9 +103,11 @@ const REFUSED_SHEETS: [&str; 9] = [
 ];
 
 pub fn all(rt: &(impl Print + Eprint + Files)) -> io::Result<()> {
-    files(rt, &NAMED_SHEETS)?;
-    files(rt, &BLANK_SHEETS)?;
-    files(rt, &REFUSED_SHEETS)?;
+    for names in [&NAMED_SHEETS[..], &BLANK_SHEETS, &REFUSED_SHEETS] {
+        for name in names {
+            file(rt, name)?;
+        }
+    }
     short_buffers(rt, "policy-blank.bid")?;
     short_buffers(rt, "blank-bytes-15998.bid")?;
     short_buffers(rt, "empty.bid")?;

@@ -3,13 +3,14 @@ use crate::show;
 use lines::Span;
 use std::io;
 use std::rt::Files;
+use terms::refusals::number_in;
 
 // What is shown of a look-up that is refused.
 const REFUSED: Span = Span { start: 0, stop: 0 };
 
 fn look_up(rt: &impl Print, name: &str, sheet: &[u8], line: u32) -> io::Result<()> {
     let answer = lines::span_of(sheet, line);
-    let number = show::number_in(answer.err());
+    let number = number_in(answer);
     let span = answer.unwrap_or(REFUSED);
     print!(rt;
         "{name} look-up={line} number={number} start={} stop={}",

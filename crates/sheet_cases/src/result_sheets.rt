@@ -3,7 +3,7 @@
 use crate::show;
 use result::{Outcome, Request};
 use std::io;
-use terms::refusals::Refusal;
+use terms::refusals::{Refusal, number_in};
 
 // What the lent bytes hold before a call; no sheet has this byte.
 pub const BEFORE: u8 = b'#';
@@ -14,7 +14,7 @@ pub fn written(
     out: &[u8],
     answer: Result<usize, Refusal>,
 ) -> io::Result<()> {
-    let number = show::number_in(answer.err());
+    let number = number_in(answer);
     let count = answer.unwrap_or(0);
     print!(rt; "{mark}: number={number} count={count}")?;
     if count <= out.len() {
@@ -60,10 +60,6 @@ fn in_256_bytes(rt: &impl Print, mark: &str, outcome: Outcome) -> io::Result<()>
     sheet(rt, mark, &mut [BEFORE; 256], outcome)
 }
 
-fn in_255_bytes(rt: &impl Print, mark: &str, outcome: Outcome) -> io::Result<()> {
-    sheet(rt, mark, &mut [BEFORE; 255], outcome)
-}
-
 fn names(rt: &impl Print) -> io::Result<()> {
     in_256_bytes(rt, "worked", worked(1, 7500))?;
     in_256_bytes(rt, "cart", worked(2, 7500))?;
@@ -80,8 +76,13 @@ fn sheets(rt: &impl Print) -> io::Result<()> {
     in_256_bytes(rt, "wait 10007", worked(1, 10007))?;
     in_256_bytes(rt, "policy 0", worked(0, 7500))?;
     in_256_bytes(rt, "policy 6", worked(6, 7500))?;
-    in_255_bytes(rt, "255 bytes", worked(1, 7500))?;
-    in_255_bytes(rt, "255 bytes, policy 6", worked(6, 7500))
+    sheet(rt, "255 bytes", &mut [BEFORE; 255], worked(1, 7500))?;
+    sheet(
+        rt,
+        "255 bytes, policy 6",
+        &mut [BEFORE; 255],
+        worked(6, 7500),
+    )
 }
 
 fn refusal(rt: &impl Print, mark: &str, out: &mut [u8], number: u32, line: u32) -> io::Result<()> {

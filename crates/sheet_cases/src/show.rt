@@ -2,7 +2,7 @@
 // put in front of it.
 use std::rt::Files;
 use std::{fs, io};
-use terms::refusals::{Refusal, RefusedAt};
+use terms::refusals::RefusedAt;
 
 // The file's bytes, put at the start of the buffer; none where it cannot be read.
 pub fn load<'b>(
@@ -20,14 +20,9 @@ pub fn load<'b>(
     }
 }
 
-// The number of a refusal; 0 where there is none.
-pub fn number_in(refusal: Option<Refusal>) -> u32 {
-    refusal.map_or(0, u32::from)
-}
-
 // The number and the line of a refusal; zeros where there is none.
 pub fn refusal(rt: &impl Print, refused: Option<RefusedAt>) -> io::Result<()> {
-    let number = number_in(refused.map(|r| r.refusal));
+    let number = refused.map_or(0, |r| u32::from(r.refusal));
     let line = refused.map_or(0, |r| r.line);
     print!(rt; " number={number} line={line}")
 }

@@ -3,6 +3,7 @@
 use crate::{result_sheets, show};
 use std::io;
 use std::rt::Files;
+use terms::refusals::number_in;
 
 const BEFORE: u8 = result_sheets::BEFORE;
 
@@ -52,7 +53,7 @@ fn longest(rt: &impl Print) -> io::Result<()> {
         &mut [0; 1000],
         &mut out,
     );
-    let number = show::number_in(answer.err());
+    let number = number_in(answer);
     println!(rt; "longest: number={number} count={}", answer.unwrap_or(0))?;
     rt.write_all(&out[15984..])
 }

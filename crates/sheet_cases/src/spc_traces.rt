@@ -63,6 +63,7 @@ fn trace_end(file: &[u8], start: usize) -> usize
     ensures { (start ≤ result) × (result ≤ length file.now) }
 {
     let mut at = start;
+    // A cursor, as document 01 names it: where the next line starts is said by the line before it.
     while let Some(end) = lines::line_at(file, at) {
         if text::equal(&file[at..end], b"--") {
             break;

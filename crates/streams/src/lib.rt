@@ -13,7 +13,8 @@ use std::io::{ErrorKind, Read};
 #[derive(Clone, Copy, Debug)]
 pub struct Failed;
 
-// A read that a signal interrupts is tried again, so many times in all: a proved loop has to end.
+// A read that a signal interrupts is tried again, so many times in all: a proved loop has to end. (It is a while and no
+// for: how often it reads is the reader's to say.)
 const TRIES: u32 = 1000000;
 
 // What failed is said by these words, where they are text.

@@ -1,5 +1,5 @@
 // The running tally of a run: a by-value core, and a thin function that a tally is lent to.
-// `counted` lends a tally of its own, so that a loop carries its tally by value.
+// `counted` lends a tally of its own, so that a loop carries its tally by value. Document 01 names the form.
 #![tactic(auto)]
 
 ghost use Rattle.std.specs.Prelude.{◌≡◌, ◌≤◌};

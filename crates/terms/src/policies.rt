@@ -7,11 +7,11 @@ use crate::refusals::Refusal;
 
 #[derive(Clone, Copy, Debug, PartialEq, Eq)]
 pub enum Policy {
-    Car,
-    Cart,
-    Fifo,
-    Clock,
-    Lru,
+    Car = 1,
+    Cart = 2,
+    Fifo = 3,
+    Clock = 4,
+    Lru = 5,
 }
 
 impl Policy {
@@ -32,13 +32,7 @@ impl From<Policy> for u32 {
     ghost from_gives = { λ policy number. number ≡ number_of policy };
 
     fn from(policy: Policy) -> u32 {
-        match policy {
-            Policy::Car => 1,
-            Policy::Cart => 2,
-            Policy::Fifo => 3,
-            Policy::Clock => 4,
-            Policy::Lru => 5,
-        }
+        policy as u32
     }
 }
 

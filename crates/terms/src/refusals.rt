@@ -1,24 +1,24 @@
 // Why a call is refused, by what each refusal says, and its number in document 01's table.
 // The numbers are those of specs/Refusals; 0 is the number of an accepted call.
 ghost use Rattle.std.specs.Prelude.{◌≡◌};
-ghost use Rattle.terms.specs.Refusals.{number_of};
+ghost use Rattle.terms.specs.Refusals.{number_of, number_in};
 
 #[derive(Clone, Copy, Debug, PartialEq, Eq)]
 pub enum Refusal {
-    PolicyNotKnown,
-    SizeNotKnown,
-    WrongLength,
-    NotSound,
-    TooManyPages,
-    BufferTooShort,
-    SheetTooLong,
-    NoSuchLine,
-    NotInForm,
-    NoRecord,
-    PageTooLarge,
+    PolicyNotKnown = 1,
+    SizeNotKnown = 2,
+    WrongLength = 3,
+    NotSound = 4,
+    TooManyPages = 5,
+    BufferTooShort = 6,
+    SheetTooLong = 7,
+    NoSuchLine = 8,
+    NotInForm = 9,
+    NoRecord = 10,
+    PageTooLarge = 11,
 }
 
-// The refusal of a sheet or a trace: why, and at which line from 1; 0 where it is of no line.
+// The refusal of a sheet or a trace: why, and at which line from 1; 0, as document 01 says, where it is of no line.
 #[derive(Clone, Copy, Debug, PartialEq, Eq)]
 pub struct RefusedAt {
     pub refusal: Refusal,
@@ -41,18 +41,16 @@ impl From<Refusal> for u32 {
     ghost from_gives = { λ refusal number. number ≡ number_of refusal };
 
     fn from(refusal: Refusal) -> u32 {
-        match refusal {
-            Refusal::PolicyNotKnown => 1,
-            Refusal::SizeNotKnown => 2,
-            Refusal::WrongLength => 3,
-            Refusal::NotSound => 4,
-            Refusal::TooManyPages => 5,
-            Refusal::BufferTooShort => 6,
-            Refusal::SheetTooLong => 7,
-            Refusal::NoSuchLine => 8,
-            Refusal::NotInForm => 9,
-            Refusal::NoRecord => 10,
-            Refusal::PageTooLarge => 11,
-        }
+        refusal as u32
+    }
+}
+
+// The number of an answer: 0 where the call is accepted.
+pub fn number_in<T: Drop>(answer: Result<T, Refusal>) -> u32
+    ensures { result ≡ number_in answer }
+{
+    match answer {
+        Ok(_) => 0,
+        Err(refusal) => refusal.into(),
     }
 }

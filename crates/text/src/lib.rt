@@ -1,5 +1,6 @@
 // Bytes compared: a key in front of them, two texts the same; and digits.
-// Every function here takes any bytes.
+// Every function here takes any bytes. Each is a line of the library, kept for its clause: callers have the sheets' word
+// and no copy of the proof.
 #![tactic(auto)]
 
 ghost use Rattle.std.specs.Prelude.{◌≡◌};
