@@ -20,7 +20,7 @@ use Rattle.sheets.specs.Number.{Value, means}
 use Rattle.sheets.specs.Lines as Lines
 use Rattle.sheets.specs.Lines.{Lines, lines}
 use Rattle.sheets.specs.Bid as Sheet
-use Rattle.sheets.specs.Bid.{Meaning, bid, refused, Pages, listed, refused_at, policy_line, size_line, cost_line}
+use Rattle.sheets.specs.Bid.{Meaning, bid, refused, policy_line, size_line, cost_line}
 use Rattle.sheets.specs.Bid.{pages_from, with_pages, after_line, in_order, meaning_where, meaning}
 use Rattle.sheets.specs.Refusals.{answer, on_read}
 use Rattle.sheets.proofs.Bids.{refusal_has_number}

@@ -1,6 +1,6 @@
 -- The promises of copy and answer: the answer and every lent byte afterwards, for every input, refused ones too.
 -- Each is fixed by a total function; proofs/Determined shows that two outcomes it allows are equal.
-use Rattle.std.specs.Prelude.{◌≡◌, List, ℕ, ◌+◌, ◌≤◌, ltb, if◌then◌else◌, Result, Ok, Err}
+use Rattle.std.specs.Prelude.{◌≡◌, List, ℕ, ◌+◌, ◌≤◌, ltb, if◌then◌else◌, Result}
 use Rattle.terms.specs.Choice.{∣◌∣}
 use Rattle.terms.specs.Limits.{most_sheet_bytes}
 use Rattle.terms.specs.Refusals.{accepted, buffer_too_short}
@@ -12,16 +12,11 @@ use Rattle.sheets.specs.Refusals as Sheets
 use Rattle.sheets.specs.Refusals.{over, on_copy}
 use Rattle.result.specs.Promises.{count_in, Wrote}
 
--- The count of bytes in the code's answer: "A refusal carries its number (and line ..), zeros .. otherwise".
-abbrev pub bytes_in : Result ℕ RefusedAt → ℕ
-bytes_in (Ok count) = count
-bytes_in (Err refused) = 0
-
 -- The code's answer and the lent bytes afterwards are what a definition gives.
 pub record CopiedAs (defined : Sheets.Copied) (r : Result ℕ RefusedAt) (out' : List ℕ) : Type 0 where
   pub number_is : number_at r ≡ defined.number
   pub line_is : line_at r ≡ defined.line
-  pub count_is : bytes_in r ≡ defined.count
+  pub count_is : count_in r ≡ defined.count
   pub bytes_are : out' ≡ defined.out
 
 -- copy(sheet, out) -> Result<usize, RefusedAt>

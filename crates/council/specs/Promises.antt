@@ -12,7 +12,6 @@ use Rattle.traces.specs.Refusals as Traces
 use Rattle.traces.specs.Refusals.{on_pages, printed}
 use Rattle.result.specs.Promises.{count_in}
 
--- "A refusal carries its number (and line ..), zeros .. otherwise".
 -- The code's answer and the lent words afterwards are what a definition gives.
 pub record TakenAs (defined : Traces.Taken) (r : Result ℕ RefusedAt) (pages' : List ℕ) : Type 0 where
   pub number_is : number_at r ≡ defined.number

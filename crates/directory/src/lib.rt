@@ -8,7 +8,7 @@ ghost use Rattle.figures.specs.Words.{decode, size, n_t1, n_t2};
 ghost use Rattle.figures.specs.Request.{request};
 ghost use Rattle.engine.specs.Shown.{Tells, number_of as kind_number};
 ghost use Rattle.entries.specs.Holds.{Holds};
-ghost use Rattle.tally.specs.Note.{defined, Small};
+ghost use Rattle.tally.specs.Note.{Small};
 ghost use Rattle.directory.specs.Promises.{Freshened, Checked, Requested, Replayed};
 ghost use Rattle.directory.specs.Ready.{still_of, HitAs, evicting, Ready, Stepped, RunThrough};
 

@@ -17,13 +17,6 @@ module _ (w : List ℕ) where
   start_of_rest (suc (suc (suc zero))) h = absurd (omega arith)
   start_of_rest (suc (suc (suc (suc i)))) h = refl
 
-  pub start_of_next : (i : ℕ) → i ≤ 3 → start_of (i + 1) w ≡ start_of i w + 2 * get_or w (4 + i) 0
-  start_of_next zero h = omega arith
-  start_of_next (suc zero) h = omega arith
-  start_of_next (suc (suc zero)) h = omega arith
-  start_of_next (suc (suc (suc zero))) h = omega arith
-  start_of_next (suc (suc (suc (suc i)))) h = absurd (omega arith)
-
   grows : (i : ℕ) → start_of i w ≤ start_of (suc i) w
   grows zero = omega arith
   grows (suc zero) = omega arith

@@ -1,12 +1,12 @@
 -- Tests read as facts: `simp reads` turns a list of tests that all hold into a product of facts, and back.
--- A test by `||` is not read; split it by cases. At the end, two tests that agree, and a test that a function answered.
+-- A test by `||` is not read; split it by cases. At the end, two tests that agree.
 use Rattle.std.specs.Prelude.{if◌then◌else◌}
-use mathlib.Core.Path.{◌≡◌, refl, sym, ◌∙◌}
+use mathlib.Core.Path.{◌≡◌, refl, sym}
 use mathlib.Core.Bool.{Bool, true, false, not, false≢true, and-eq-true_iff}
 use mathlib.Core.Logic.{◌↔◌}
 use Prim.Native.Nat.{ℕ, ◌≤◌, ◌<◌}
 use lib.Dec.{eqb, leb, ltb}
-use borrow.Author.Tests.{ltb-true, lt-ltb, leb-true, le-leb, eqb-true, eq-eqb, not-true, not-false}
+use borrow.Author.Tests.{ltb-true, lt-ltb, leb-true, le-leb, eqb-true, eq-eqb}
 
 pub leb_iff : (a b : ℕ) → (leb a b ≡ true) ↔ (a ≤ b)
 leb_iff a b = (leb-true a b, le-leb a b)
@@ -36,11 +36,3 @@ pub agree : (a b : Bool) → (a ≡ true → b ≡ true) → (b ≡ true → a �
 agree true b h i = sym (h refl)
 agree false true h i = i refl
 agree false false h i = refl
-
--- What `if !answer` tells of the test that was answered.
-module _ {answer test : Bool} (said : answer ≡ test) where
-  pub test_holds : not answer ≡ false → test ≡ true
-  test_holds left = sym said ∙ not-false answer left
-
-  pub test_fails : not answer ≡ true → test ≡ false
-  test_fails taken = sym said ∙ not-true answer taken

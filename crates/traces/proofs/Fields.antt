@@ -1,6 +1,6 @@
 -- A line's fields by the first comma: the field before it and the fields after it, or one field that none follows.
 use Rattle.std.specs.Prelude.{if◌then◌else◌}
-use mathlib.Core.Path.{◌≡◌, refl, ap, ◌∙◌}
+use mathlib.Core.Path.{◌≡◌, refl, ap}
 use mathlib.Core.Bool.{Bool, true, false}
 use mathlib.Core.List.{List, [], ◌∷◌}
 use Prim.Native.Nat.{ℕ, suc, ◌+◌, ◌<◌}
@@ -11,7 +11,7 @@ use Rattle.terms.specs.Choice.{∣◌∣}
 use Rattle.text.specs.Bytes.{index_after, index_of}
 use Rattle.sheets.specs.Number.{comma}
 use Rattle.sheets.proofs.Places.{cut_first}
-use Rattle.traces.specs.Fields.{Fields, field, last, behind, fields, first}
+use Rattle.traces.specs.Fields.{field, last, behind, fields}
 
 pub fields_closed : (s : List ℕ) → index_of comma s < ∣ s ∣
     → fields s ≡ field (take (index_of comma s) s) (fields (drop (index_of comma s + 1) s))
