@@ -41,13 +41,13 @@ in_no_line {at = at} (not_closed some is) (suc n) = ap (value_of at (suc n)) is
 -- SPANS
 
 pub span_nowhere : (s : List ℕ) {p : Place} → p ≡ nowhere → SpanOf s (found_at p) (Err Refusal.NoSuchLine)
-span_nowhere s is = rw is (record { number_is = refl; span_is = tt })
+span_nowhere s is = rw is (record { number_is = refl; span_is = (refl, refl) })
 
 -- "Look-up: 7, then 8"
 module _ (s : List ℕ) (line : ℕ) where
   pub too_long : 16000 < ∣ s ∣ → SpanOf s (on_look_up s line) (Err Refusal.SheetTooLong)
   unfolding on_look_up
-  too_long h = rw (lt-ltb 16000 ∣ s ∣ h) (record { number_is = refl; span_is = tt })
+  too_long h = rw (lt-ltb 16000 ∣ s ∣ h) (record { number_is = refl; span_is = (refl, refl) })
 
   pub looked_up : {p : Place} {r : Result Span Refusal} → ∣ s ∣ ≤ 16000 → value_from s 0 line ≡ p → SpanOf s (found_at p) r
       → SpanOf s (on_look_up s line) r

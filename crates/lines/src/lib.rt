@@ -6,10 +6,10 @@ ghost use Rattle.std.specs.Prelude.{◌≡◌, ◌-◌, ◌≤◌, length, take,
 ghost use Rattle.sheets.specs.LookUp.{value_in};
 ghost use Rattle.sheets.specs.Refusals.{found_at, on_look_up};
 ghost use Rattle.lines.specs.Cursor.{line_at, SpanOf};
-ghost use Rattle.lines.specs.Stretch.{LookedUp};
+ghost use Rattle.lines.specs.Stretch.{Stretch, LookedUp};
 
 use terms::limits;
-use terms::refusals::Refusal;
+use terms::refusals::{Refusal, number_in};
 use text::scan;
 
 // A sheet and the place up to which it is read: a form that document 01 names, with the cursor that it asks.
@@ -93,4 +93,23 @@ pub fn look_up(sheet: &[u8], line: u32) -> Result<&[u8], Refusal>
 {
     let span = span_of(sheet, line)?;
     Ok(&sheet[span.start..span.stop])
+}
+
+// The look-up's part alone, for callers that keep no answer with a reference in it: empty, at the sheet's front, where
+// the look-up is refused.
+pub fn part_of(sheet: &[u8], line: u32) -> &[u8]
+    ensures { Stretch sheet.entry
+        (on_look_up sheet.now line).start (on_look_up sheet.now line).stop result }
+{
+    match look_up(sheet, line) {
+        Ok(part) => part,
+        Err(_) => &sheet[..0],
+    }
+}
+
+// The look-up's number alone, out of its own answer.
+pub fn number_of(sheet: &[u8], line: u32) -> u32
+    ensures { result ≡ (on_look_up sheet.now line).number }
+{
+    number_in(look_up(sheet, line))
 }

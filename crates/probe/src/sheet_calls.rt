@@ -28,17 +28,9 @@ pub fn look_up(
 ) -> Result<(), Failed> {
     let sheet = wire.buffer(&mut memory.sheet)?;
     let line = wire.word()?;
-    match lines::span_of(sheet, line) {
-        Ok(span) => {
-            wire.put(&[0]);
-            wire.put_count(span.start);
-        }
-        Err(refusal) => wire.put(&[u32::from(refusal), 0]),
-    }
-    match lines::look_up(sheet, line) {
-        Ok(part) => wire.put_buffer(part),
-        Err(_) => wire.put_count(0),
-    }
+    wire.put(&[lines::number_of(sheet, line)]);
+    wire.put_count(lines::span_of(sheet, line).map_or(0, |span| span.start));
+    wire.put_buffer(lines::part_of(sheet, line));
     wire.send()
 }
 
@@ -71,7 +63,7 @@ pub fn write_result(
     };
     match result::write(out, outcome) {
         Ok(count) => {
-            wire.put(&[0]);
+            wire.put(&[0u32]);
             wire.put_count(count);
         }
         Err(refusal) => wire.put(&[u32::from(refusal), 0]),

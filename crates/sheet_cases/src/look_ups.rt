@@ -17,17 +17,15 @@ fn look_up(rt: &impl Print, name: &str, sheet: &[u8], line: u32) -> io::Result<(
         span.start, span.stop
     )?;
     print!(rt; " part=[")?;
-    if let Ok(part) = lines::look_up(sheet, line) {
-        rt.write_all(part)?;
-    }
+    rt.write_all(lines::part_of(sheet, line))?;
     println!(rt; "]")
 }
 
-// Some lines of a file.
+// Some lines of a file, which is loaded for each: where it is missing, each says so.
 fn look_ups(rt: &(impl Print + Eprint + Files), name: &str, lines: &[u32]) -> io::Result<()> {
-    let mut sheet = [0; 16001];
-    let sheet = show::load(rt, name, &mut sheet)?;
     for line in lines {
+        let mut sheet = [0; 16001];
+        let sheet = show::load(rt, name, &mut sheet)?;
         look_up(rt, name, sheet, *line)?;
     }
     Ok(())
