@@ -1,11 +1,11 @@
--- A run of a sound directory, request by request: the moves of each, and where the run stands midway.
+-- A run of a sound directory, request by request: an answer's four words, its moves, and where the run stands midway.
 use mathlib.Core.Path.{◌≡◌, refl, sym, ap, ◌∙◌, subst⁻¹}
-use mathlib.Core.List.{List, [], ◌++◌, append_assoc, append-nil}
-use Prim.Native.Nat.{ℕ, ◌+◌, ◌*◌, ◌≤◌, ◌<◌}
+use mathlib.Core.List.{List, [], ◌∷◌, ◌++◌, append_assoc, append-nil}
+use Prim.Native.Nat.{ℕ, suc, ◌+◌, ◌*◌, ◌≤◌, ◌<◌}
 use native.Mathlib.Numerals.{add-one}
 use native.Mathlib.Omega.{arith}
-use lib.ListN.{get_or, take, drop, length-append, drop_of_length-le}
-use lib.Seq.{drop-cons, drop-drop, drop-append-add, take_at}
+use lib.ListN.{get_or, set, take, drop, length-append, drop_of_length-le}
+use lib.Seq.{drop-cons, drop-drop, drop-append-add, take_at, sets-eq}
 use Rattle.terms.specs.Choice.{∣◌∣}
 use Rattle.terms.proofs.ByPolicy.{by-policy}
 use Rattle.figures.specs.Words.{encode, decode}
@@ -23,6 +23,15 @@ use Rattle.tally.specs.Note.{defined}
 use Rattle.tally.proofs.Tallies.{Within, noted_within}
 use Rattle.directory.specs.Ready.{Ready, Stepped, RunThrough}
 use Rattle.directory.proofs.Serving.{words_held, decoded_sound}
+
+-- Four stores, one after another, from word at on.
+pub four_stores : (l : List ℕ) (at k p n m : ℕ) → at + 4 ≤ ∣ l ∣
+    → set (set (set (set l at k) (at + 1) p) (at + 2) n) (at + 3) m ≡ take at l ++ (k ∷ p ∷ n ∷ m ∷ drop (at + 4) l)
+four_stores l at k p n m fits =
+    let one : at + 1 ≡ suc at = omega arith in
+    let two : at + 2 ≡ suc (suc at) = omega arith in
+    let three : at + 3 ≡ suc (suc (suc at)) = omega arith in
+    rw (one, two, three) (sets-eq (k ∷ p ∷ n ∷ m ∷ []) l at fits ∙ append_assoc (take at l) _ _)
 
 -- No request of a sound directory takes more moves than a tally has room for.
 pub moves_counted : {w : List ℕ} → Ready w → (x : ℕ) → (request x (decode w)).moves ≤ 2049

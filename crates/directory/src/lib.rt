@@ -151,18 +151,16 @@ pub fn request(dir: &mut [u32], page: u32) -> Result<Answer, Refusal>
 }
 
 // An answer's four words, written from word at on.
+#[tactic(auto, using(crate::proofs::Replaying::four_stores))]
 fn put_answer(answers: &mut [u32], at: usize, served: Served)
     requires { at + 4 ≤ length answers.old }
     ensures { answers.new ≡ take at answers.old
         ++ (kind_number served.kind ∷ served.page ∷ served.list ∷ served.moves ∷ drop (at + 4) answers.old) }
 {
-    let words = [
-        u32::from(served.kind),
-        served.page,
-        served.list,
-        served.moves,
-    ];
-    answers[at..at + 4].copy_from_slice(&words);
+    answers[at] = u32::from(served.kind);
+    answers[at + 1] = served.page;
+    answers[at + 2] = served.list;
+    answers[at + 3] = served.moves;
 }
 
 // One request of a run: served, answered from word at on, and counted.
@@ -174,7 +172,7 @@ fn step(dir: &mut [u32], page: u32, answers: &mut [u32], at: usize, t: Tally) ->
 {
     let served = serve(dir, page);
     put_answer(answers, at, served);
-    tally::counted(t, served)
+    tally::counted(t, u32::from(served.kind), served.moves)
 }
 
 // The requests of a trace in order, from a sound directory.

@@ -50,14 +50,15 @@ pub struct Evicted {
 }
 
 // What a request answers: its kind, and document 01's other three words, which are zeros where nothing was evicted (list
-// 1 is T1, 2 is T2); and the reference bits that the hand cleared.
+// 1 is T1, 2 is T2); and the reference bits that the hand cleared. The kind, a byte, stands last: with it in front a run
+// waits for the words behind it (docs/LOOK-BACK.md).
 #[derive(Clone, Copy)]
 pub struct Served {
-    pub kind: Kind,
     pub page: u32,
     pub list: u32,
     pub moves: u32,
     pub cleared: u32,
+    pub kind: Kind,
 }
 
 // The answer of a miss after the evict part.

@@ -7,14 +7,12 @@ use lib.Dec.{eqb, leb}
 use native.Mathlib.Omega.{arith}
 use Rattle.figures.specs.Request as Request
 use Rattle.figures.specs.Run as Run
-use Rattle.engine.specs.declared.Served.{Served}
-use Rattle.engine.specs.Shown.{number_of}
 use Rattle.tally.specs.Note.{defined, noted_of}
 use Rattle.tally.specs.declared.Tally.{Tally}
 
-pub noted_defined : (t : Tally) (r : Served) (s : Request.Served) → number_of r.kind ≡ s.kind → r.moves ≡ s.moves
-    → defined (noted_of t r) ≡ Run.noted s (defined t)
-noted_defined t r s kind moves = rw (kind, moves)
+pub noted_defined : (t : Tally) {kind moves : ℕ} (s : Request.Served) → kind ≡ s.kind → moves ≡ s.moves
+    → defined (noted_of t kind moves) ≡ Run.noted s (defined t)
+noted_defined t s kind moves = rw (kind, moves)
 
 -- The tally of n answers, of at most 2,049 moves each, is at most this large.
 pub record Within (n : ℕ) (t : Run.Tally) : Type 0 where

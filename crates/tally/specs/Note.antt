@@ -1,22 +1,21 @@
--- A tally brought up to date by one answer, as figures' Run.noted has it, and how large a tally may be.
+-- A tally brought up to date by one answer, as figures' Run.noted has it, and how large a tally may be. Of the answer
+-- it takes the kind's number and the moves.
 -- `defined` reads the code's struct as the tally of the definitions.
-use Rattle.std.specs.Prelude.{◌+◌, ◌≤◌, eqb, leb, if◌then◌else◌}
+use Rattle.std.specs.Prelude.{ℕ, ◌+◌, ◌≤◌, eqb, leb, if◌then◌else◌}
 use Rattle.figures.specs.Run as Run
-use Rattle.engine.specs.declared.Served.{Served}
-use Rattle.engine.specs.Shown.{number_of}
 use Rattle.tally.specs.declared.Tally.{Tally}
 
 abbrev pub defined : Tally → Run.Tally
 defined t =
     record { requests = t.requests; hits = t.hits; misses = t.misses; evictions = t.evictions; moves = t.moves }
 
-abbrev pub noted_of : Tally → Served → Tally
-noted_of t s = record {
+abbrev pub noted_of : Tally → ℕ → ℕ → Tally
+noted_of t kind moves = record {
   requests = t.requests + 1;
-  hits = t.hits + (if eqb (number_of s.kind) 0 then 1 else 0);
-  misses = t.misses + (if eqb (number_of s.kind) 0 then 0 else 1);
-  evictions = t.evictions + (if leb 2 (number_of s.kind) then 1 else 0);
-  moves = t.moves + s.moves;
+  hits = t.hits + (if eqb kind 0 then 1 else 0);
+  misses = t.misses + (if eqb kind 0 then 0 else 1);
+  evictions = t.evictions + (if leb 2 kind then 1 else 0);
+  moves = t.moves + moves;
 }
 
 -- Room for one more answer: a run has at most 1,000, of at most 2,049 moves each.

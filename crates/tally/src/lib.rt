@@ -18,39 +18,36 @@ pub struct Tally {
     pub moves: u32,
 }
 
-// The tally brought up to date by an answer.
-fn noted(t: Tally, served: engine::Served) -> Tally
-    requires { Small t × (served.moves ≤ 2049) }
-    ensures { result ≡ noted_of t served }
+// The tally brought up to date by an answer's kind and moves. The kind stays a number: any number is counted.
+fn noted(t: Tally, kind: u32, moves: u32) -> Tally
+    requires { Small t × (moves ≤ 2049) }
+    ensures { result ≡ noted_of t kind moves }
 {
-    let hit = u32::from(served.kind == Kind::Hit);
-    let evicted = match served.kind {
-        Kind::Hit | Kind::WithRoom => 0,
-        Kind::New | Kind::FromB1 | Kind::FromB2 => 1,
-    };
+    let hit = u32::from(kind == u32::from(Kind::Hit));
+    let evicted = u32::from(u32::from(Kind::New) <= kind);
     Tally {
         requests: t.requests + 1,
         hits: t.hits + hit,
         misses: t.misses + (1 - hit),
         evictions: t.evictions + evicted,
-        moves: t.moves + served.moves,
+        moves: t.moves + moves,
     }
 }
 
 // The same of a tally that is lent.
-fn note(t: &mut Tally, served: engine::Served)
-    requires { Small t.old × (served.moves ≤ 2049) }
-    ensures { t.new ≡ noted_of t.old served }
+fn note(t: &mut Tally, kind: u32, moves: u32)
+    requires { Small t.old × (moves ≤ 2049) }
+    ensures { t.new ≡ noted_of t.old kind moves }
 {
-    *t = noted(*t, served);
+    *t = noted(*t, kind, moves);
 }
 
 // The same by value, through the lent tally.
-pub fn counted(t: Tally, served: engine::Served) -> Tally
-    requires { Small t × (served.moves ≤ 2049) }
-    ensures { result ≡ noted_of t served }
+pub fn counted(t: Tally, kind: u32, moves: u32) -> Tally
+    requires { Small t × (moves ≤ 2049) }
+    ensures { result ≡ noted_of t kind moves }
 {
     let mut own = t;
-    note(&mut own, served);
+    note(&mut own, kind, moves);
     own
 }

@@ -18,7 +18,7 @@ returns c =
     let served = request c.args.page (decode c.args.dir.now) in
     record {
       tally_is = ap defined c.counted.ensures
-          ∙ noted_defined c.args.t c.serve-served.result served told.kind_is told.moves_is;
+          ∙ noted_defined c.args.t served (c.from.ensures ∙ told.kind_is) told.moves_is;
       shown = told.shown;
       answers_are = cc (c.put_answer.ensures, told.kind_is, told.page_is, told.list_is, told.moves_is);
       ready_again = c.serve-served.ensures.1;
