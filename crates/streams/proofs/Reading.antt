@@ -1,12 +1,16 @@
 -- A read into a part is a read at the part's place, and what all reads put stands in front as each put it.
 use Rattle.std.proofs.Common.{◌≡◌, ◌∙◌, refl, sym, ap, subst, List, ◌++◌, ℕ, ◌+◌, ◌-◌, ◌≤◌, length, take, drop, Option, Ok, arith}
+use Rattle.std.specs.Prelude.{Result, Err, Some, None}
+use Rattle.std.specs.declared.io.Error.{Error}
+use Rattle.std.specs.declared.io.ErrorKind.TheVariants.{Interrupted}
+use Rattle.std.specs.IoError.{error_kind}
 use Rattle.std.proofs.lemmas.List.{take-append-le, length-take-le}
 use Rattle.std.proofs.Math.Seq.{take-append-add}
 use Rattle.std.specs.Io.KnownBytes.{Consumes, Keeps}
 use Rattle.std.proofs.KnownBytes.{Consumes-trans, Consumes-kept}
 use lib.Seq.{take-add}
 use borrow.Rule.Slice.PartMut.{mid_of, post_of, put_mid, mid_len, same_len_mid, take_put}
-use Rattle.streams.specs.Reads.{Answer, put, GoesOn, ReadAt, Reads, none, more, came, ended, full, Whole}
+use Rattle.streams.specs.Reads.{Answer, ReadTells, put, GoesOn, ReadAt, Reads, none, more, came, ended, full, Whole}
 
 -- What a read puts into the part from a place on stands at that place.
 pub read_at : (w part : List ℕ) (at : ℕ) (r : Answer) → at ≤ length w → length part ≡ length (mid_of at (length w - at) w)
@@ -42,6 +46,38 @@ pub next_kept : (a b c : Option (List ℕ)) (w part : List ℕ) (at k : ℕ) →
     → Keeps b c → Consumes a c (take at (put_mid at k w part))
 next_kept a b c w part at k within before one =
     subst (λ (l : List ℕ). Consumes a c l) (sym (take_put at k w part within)) (Consumes-kept a b c (take at w) before one)
+
+-- WHAT A READ TOLD
+
+bytes_told : Result (Option ℕ) Error → ℕ
+bytes_told (Ok (Some n)) = n
+bytes_told (Ok None) = 0
+bytes_told (Err e) = 0
+
+is_some : Option ℕ → ℕ
+is_some (Some n) = 1
+is_some None = 0
+
+told_some : Result (Option ℕ) Error → ℕ
+told_some (Ok o) = is_some o
+told_some (Err e) = 0
+
+pub came_as : (got : Answer) {r : Result (Option ℕ) Error} {n : ℕ} → ReadTells got r → r ≡ Ok (Some n) → got ≡ Ok n
+unfolding bytes_told is_some
+came_as (Ok m) says is = ap Ok (ap bytes_told (sym says ∙ is))
+came_as (Err e) says is =
+    let never = ap is_some (rw is at says).0 in absurd (omega (arith, never))
+
+pub record Interrupts (got : Answer) : Type 0 where
+  pub error : Error
+  pub is : got ≡ Err error
+  pub interrupted : error_kind error ≡ Interrupted
+
+pub interrupted_as : (got : Answer) {r : Result (Option ℕ) Error} → ReadTells got r → r ≡ Ok None → Interrupts got
+unfolding is_some told_some
+interrupted_as (Ok m) says is =
+    let never = ap told_some (sym says ∙ is) in absurd (omega (arith, never))
+interrupted_as (Err e) says is = record { error = e; is = refl; interrupted = (rw is at says).1 }
 
 in-order : {w v : List ℕ} {n : ℕ} (r : Reads w n v) → take n v ≡ came r
 in-order none = refl

@@ -1,6 +1,6 @@
 -- A lent buffer that is read into, read after read. No contract can say which bytes a call of the system reads; what is
 -- said here is that they are handed on as each read put them, all of them and in order, and when the reading is over.
-use Rattle.std.specs.Prelude.{◌≡◌, List, [], ◌++◌, ℕ, ◌+◌, ◌≤◌, length, take, drop, Result, Ok, Err}
+use Rattle.std.specs.Prelude.{◌≡◌, List, [], ◌++◌, ℕ, ◌+◌, ◌≤◌, length, take, drop, Result, Ok, Err, Option, Some, None, MatchResult}
 use Rattle.std.specs.declared.io.Error.{Error}
 use Rattle.std.specs.declared.io.ErrorKind.TheVariants.{Interrupted}
 use Rattle.std.specs.IoError.{error_kind}
@@ -9,6 +9,12 @@ use Rattle.streams.specs.declared.Failed.{Failed}
 -- What one read answers.
 abbrev pub Answer : Type 0
 Answer = Result ℕ Error
+
+-- What a read's answer tells. "Only a read that answers 0 ends the input", and one that went well is no failure.
+abbrev pub ReadTells : Answer → Result (Option ℕ) Error → Type 0
+ReadTells (Ok n) r = r ≡ Ok (Some n)
+ReadTells (Err e) r =
+    MatchResult r (λ n. (n ≡ None) × (error_kind e ≡ Interrupted)) (λ f. error_kind e ≡ Interrupted → ⊥)
 
 -- How many bytes a read put.
 abbrev pub put : Answer → ℕ

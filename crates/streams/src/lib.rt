@@ -4,7 +4,7 @@
 
 ghost use Rattle.std.specs.Prelude.{◌<◌, length, take, IfOk};
 ghost use Rattle.std.specs.Io.KnownBytes.{Consumes, IsAtEnd};
-ghost use Rattle.streams.specs.Reads.{Handed};
+ghost use Rattle.streams.specs.Reads.{Handed, ReadTells};
 
 use std::io;
 use std::io::{ErrorKind, Read};
@@ -24,6 +24,18 @@ fn say(rt: &impl Eprint, what: &[u8], error: io::Error) -> Failed {
     Failed
 }
 
+// What a read's answer tells: so many bytes, none at the end; nothing where a signal interrupted it; a failure. A read
+// that went well is none.
+fn told(got: io::Result<usize>) -> io::Result<Option<usize>>
+    ensures { ReadTells got result }
+{
+    match got {
+        Ok(n) => Ok(Some(n)),
+        Err(e) if e.kind() == ErrorKind::Interrupted => Ok(None),
+        Err(e) => Err(e),
+    }
+}
+
 // Reads until the file ends or the buffer is full; where a read fails, that is said by these words, which stay bytes:
 // the function is public, and any bytes are answered. Of a reader whose bytes are known those that come are the next,
 // and they are fewer than the buffer holds only where no more are left.
@@ -40,10 +52,10 @@ pub fn read_from<R: Read>(
     let mut at = 0;
     let mut tries = TRIES;
     while at < buf.len() && 0 < tries {
-        match reader.read(&mut buf[at..]) {
-            Ok(0) => return Ok(at),
-            Ok(n) => at += n,
-            Err(e) if e.kind() == ErrorKind::Interrupted => tries -= 1,
+        match told(reader.read(&mut buf[at..])) {
+            Ok(Some(0)) => return Ok(at),
+            Ok(Some(n)) => at += n,
+            Ok(None) => tries -= 1,
             Err(e) => return Err(say(rt, what, e)),
         }
     }
