@@ -1,7 +1,7 @@
 -- A line under its key, by the cursor's answer: the value's bytes and the place of the next line, or no such line.
 use Rattle.std.specs.Prelude.{Ok, Err}
 use Rattle.std.specs.Borrow.{Bor}
-use mathlib.Core.Path.{◌≡◌, refl, sym, ap, ◌∙◌}
+use mathlib.Core.Path.{◌≡◌, sym, ap}
 use mathlib.Core.Bool.{Bool, true, false}
 use mathlib.Core.List.{List, [], ◌∷◌}
 use Prim.Native.Nat.{ℕ, suc, ◌+◌, ◌-◌}
@@ -9,20 +9,12 @@ use native.Mathlib.Omega.{arith}
 use lib.Dec.{eqb}
 use lib.ListN.{length, take, drop}
 use borrow.Author.Tests.{ne_eqb}
-use lib.Pointwise.{pointwise}
 use Rattle.terms.specs.Choice.{∣◌∣, same}
 use Rattle.terms.specs.declared.refusals.Refusal.{Refusal}
 use Rattle.text.specs.Text.{starts}
-use Rattle.text.proofs.Text.{both-is}
 use Rattle.sheets.specs.Lines.{under}
 use Rattle.lines.proofs.Cursor.{ClosedAt, MissingAt, ended, not_closed, closed_line, missing_line}
 use Rattle.bid.specs.Answers.{KeyedAt}
-
--- A key is stripped as `starts` looks for it.
-strips-is : (key l : List ℕ) → pointwise eqb (take ∣ key ∣ l) key ≡ starts key l
-strips-is [] l = refl
-strips-is (k ∷ key) [] = refl
-strips-is (k ∷ key) (b ∷ l) = rw (strips-is key l) (both-is (eqb b k) (starts key l))
 
 module _ {s : List ℕ} {at stop : ℕ} (closed : ClosedAt s at stop) where
   -- The line itself.
@@ -30,19 +22,15 @@ module _ {s : List ℕ} {at stop : ℕ} (closed : ClosedAt s at stop) where
   l = take (stop - at) (drop at s)
 
   module _ {key : List ℕ} where
-    pub other_key : pointwise eqb (take ∣ key ∣ l) key ≡ false → KeyedAt s at key (Err Refusal.NoSuchLine)
-    other_key test =
-        let other = sym (strips-is key l) ∙ test in
-        record { under_key = λ meant. rw (closed.reads, other); ahead = tt }
+    pub other_key : starts key l ≡ false → KeyedAt s at key (Err Refusal.NoSuchLine)
+    other_key test = record { under_key = λ meant. rw (closed.reads, test); ahead = tt }
 
-    pub its_key : {value : Bor (List ℕ)} → pointwise eqb (take ∣ key ∣ l) key ≡ true → value.now ≡ drop ∣ key ∣ l
+    pub its_key : {value : Bor (List ℕ)} → starts key l ≡ true → value.now ≡ drop ∣ key ∣ l
         → KeyedAt s at key (Ok (value, stop + 1))
-    its_key test value_is =
-        let its = sym (strips-is key l) ∙ test in
-        record {
-          under_key = λ meant. rw (closed.reads, its, value_is);
-          ahead = (omega (arith, closed.from), omega (arith, closed.inside));
-        }
+    its_key test value_is = record {
+      under_key = λ meant. rw (closed.reads, test, value_is);
+      ahead = (omega (arith, closed.from), omega (arith, closed.inside));
+    }
 
 pub no_line : {s : List ℕ} {at : ℕ} {key : List ℕ} → MissingAt s at → KeyedAt s at key (Err Refusal.NoSuchLine)
 no_line {key = key} (ended past none) = record { under_key = λ meant. ap (under key meant) none; ahead = tt }

@@ -22,10 +22,11 @@ fn under_key<'a>(sheet: &'a [u8], at: usize, key: &[u8]) -> Result<(&'a [u8], us
     let Some(end) = lines::line_at(sheet, at) else {
         return Err(Refusal::NoSuchLine);
     };
-    let Some(value) = sheet[at..end].strip_prefix(key) else {
+    let line = &sheet[at..end];
+    if !text::starts_with(line, key) {
         return Err(Refusal::NoSuchLine);
-    };
-    Ok((value, end + 1))
+    }
+    Ok((&line[key.len()..], end + 1))
 }
 
 // Whether the bytes are the policy's name.

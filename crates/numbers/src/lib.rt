@@ -35,7 +35,8 @@ pub fn whole(text: &[u8]) -> Option<u32>
     if !in_form(text, 10) {
         return None;
     }
-    u32::try_from(value(text)).ok()
+    let n = value(text);
+    u32::try_from(n).ok()
 }
 
 // Milliseconds and the three digits behind them, in thousandths.
@@ -50,7 +51,8 @@ fn thousandths(before: &[u8], after: &[u8]) -> u32
 pub fn miss_cost(text: &[u8]) -> Option<u32>
     ensures { meant result ≡ miss_cost text.now }
 {
-    let n = scan::find(text, b',')?;
+    // Where no comma is, its place is the length, as the definition has it.
+    let n = scan::find(text, b',').unwrap_or(text.len());
     if text.len() != n + 4 {
         return None;
     }

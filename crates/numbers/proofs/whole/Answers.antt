@@ -12,12 +12,12 @@ pub returns-then-not-in_form : goal.returns-then-not-in_form
 returns-then-not-in_form c =
     let s = c.args.text.now in let isnt : digits_form 10 s ≡ false = cc in sym (whole_not_in_form s isnt)
 
-pub value-requires-clause-digits : goal.value-requires-clause-digits
-value-requires-clause-digits c =
+pub value-n-requires-clause-digits : goal.value-n-requires-clause-digits
+value-n-requires-clause-digits c =
     let s = c.args.text.now in let form : digits_form 10 s ≡ true = cc in (in-form 10 s form).digits
 
-pub value-requires-clause-at_most_ten : goal.value-requires-clause-at_most_ten
-value-requires-clause-at_most_ten c =
+pub value-n-requires-clause-at_most_ten : goal.value-n-requires-clause-at_most_ten
+value-n-requires-clause-at_most_ten c =
     let s = c.args.text.now in let form : digits_form 10 s ≡ true = cc in (in-form 10 s form).at_most
 
 -- A number that fits is meant, and one that does not is too large.
@@ -31,4 +31,4 @@ pub returns : goal.returns
 returns c =
     let s = c.args.text.now in
     let form : digits_form 10 s ≡ true = cc in
-    ap meant c.ok.ensures.value ∙ fitting s _ _ c.value.ensures form c.try_from.ensures
+    ap meant c.ok.ensures.value ∙ fitting s _ _ (omega (arith, c.value-n.ensures)) form c.try_from.ensures
