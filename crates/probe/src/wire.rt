@@ -44,49 +44,62 @@ impl<'h, 'i, 'r, H: Print + Eprint, I: Read> Wire<'h, 'i, 'r, H, I> {
         Ok(u32::from_le_bytes(raw))
     }
 
-    // As many words as there are places for, with no length before them.
+    // As many words as there are places for, in one read, with no length before them.
     pub fn words<const N: usize>(&mut self) -> Result<[u32; N], Failed> {
         let mut words = [0; N];
-        for word in &mut words {
-            *word = self.word()?;
-        }
+        self.elements(&mut words)?;
         Ok(words)
     }
 
     // A buffer of words, or of bytes, put at the start of what is lent.
     pub fn buffer<'b, T: Copy + TryFrom<u32>>(
         &mut self,
-        elements: &'b mut [T],
+        lent: &'b mut [T],
     ) -> Result<&'b mut [T], Failed>
     where
         T::Error: Drop,
     {
         let count = self.word()? as usize;
+        let Some(elements) = lent.get_mut(..count) else {
+            return Err(unreadable(self.rt));
+        };
+        self.elements(elements)?;
+        Ok(elements)
+    }
+
+    // A word of the input for each element.
+    fn elements<T: Copy + TryFrom<u32>>(&mut self, elements: &mut [T]) -> Result<(), Failed>
+    where
+        T::Error: Drop,
+    {
+        let count = elements.len();
         let raw = &mut *self.raw;
-        if elements.len() < count || raw.len() < 4 * count {
+        if raw.len() / 4 < count {
             return Err(unreadable(self.rt));
         }
         fill(self.rt, self.input, &mut raw[..4 * count])?;
-        let read = &mut elements[..count];
-        for (element, word) in read.iter_mut().zip(raw.chunks_exact(4)) {
+        for (element, word) in elements.iter_mut().zip(raw.chunks_exact(4)) {
             let Ok(value) = T::try_from(word_of(word)) else {
                 return Err(unreadable(self.rt));
             };
             *element = value;
         }
-        Ok(read)
+        Ok(())
     }
 
-    // Words of the answer. (Nothing is put past the raw buffer's end: no answer is so long.)
-    pub fn put(&mut self, words: &[u32]) {
-        for word in words {
-            for byte in word.to_le_bytes() {
-                if let Some(place) = self.raw.get_mut(self.filled) {
-                    *place = byte;
-                    self.filled += 1;
-                }
-            }
+    // Words of the answer, or bytes, a word to each. (Nothing is put past the raw buffer's end: no answer is so long.)
+    pub fn put<T: Copy + Into<u32>>(&mut self, elements: &[T]) {
+        let filled = self.filled;
+        let raw = &mut *self.raw;
+        let Some(free) = raw.get_mut(filled..) else {
+            return;
+        };
+        let count = elements.len().min(free.len() / 4);
+        for (place, element) in free.chunks_exact_mut(4).zip(elements) {
+            let word: u32 = (*element).into();
+            place.copy_from_slice(&word.to_le_bytes());
         }
+        self.filled = filled + 4 * count;
     }
 
     // A count, as a word of the answer.
@@ -97,9 +110,7 @@ impl<'h, 'i, 'r, H: Print + Eprint, I: Read> Wire<'h, 'i, 'r, H, I> {
     // A buffer of words, or of bytes, in the answer.
     pub fn put_buffer<T: Copy + Into<u32>>(&mut self, elements: &[T]) {
         self.put_count(elements.len());
-        for element in elements {
-            self.put(&[(*element).into()]);
-        }
+        self.put(elements);
     }
 
     // The answer is written, and the next one begins.
