@@ -13,7 +13,7 @@ returns-in_err-try_from c =
     rw (p.1, p.2, c.in_err-try_from.ensures.0) (sheet_policy _ _ c.in_err-try_from.ensures.1)
 
 pub returns-then-out-lt-LEAST : goal.returns-then-out-lt-LEAST
-returns-then-out-lt-LEAST c = sheet_short _ _ (numbered_known _ c.in_ok-try_from.ensures) (omega arith)
+returns-then-out-lt-LEAST c = search (sheet_short, numbered_known, arith)
 
 pub put_sheet-requires : goal.put_sheet-requires
 put_sheet-requires c = omega (arith, result_fits (defined c.args.outcome) (omega arith))
